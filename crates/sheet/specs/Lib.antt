@@ -1,0 +1,9 @@
+pub mod Outcome
+pub mod Fields
+pub mod Names
+pub mod Nodes
+pub mod Globals
+pub mod Functions
+pub mod FunctionsOf
+pub mod Sheets
+pub mod SheetsOf
