@@ -1,0 +1,2 @@
+// What the programs say, as functions on values.
+pub mod sheetrun;
