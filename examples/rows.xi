@@ -1,0 +1,5 @@
+use io
+
+main(args: int[][]) {
+    while !eof() println(readln())
+}
