@@ -1,2 +1,5 @@
 pub mod Numbers
 pub mod Program
+pub mod Tree
+pub mod Typing
+pub mod Obeys
