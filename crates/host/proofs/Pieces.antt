@@ -1,21 +1,21 @@
 -- The unread text of a tile, piece by piece: hs are the heights, w the width, k the height that is read, and t how many characters of its piece are read.
 use mathlib.Core.Path.{_≡_, refl, sym, ap, _∙_}
 use mathlib.Core.List.{List, [], _∷_, _++_, append-assoc}
-use mathlib.Core.Bool.{Bool, true, false, not, cond}
+use mathlib.Core.Bool.{Bool, true, false, cond}
 use mathlib.Core.Logic.{_⊎_, ⊎-elim}
-use Prim.Native.Nat.{ℕ, zero, suc, _+_, _-_, _%_, _^_, _≤_, _<_}
+use Prim.Native.Nat.{ℕ, suc, _+_, _-_, _%_, _≤_, _<_}
 use native.Mathlib.Omega.{arith}
 use lib.Dec.{eqb, leb, ltb}
-use lib.IntN.{ℤ, pos, negsuc}
-use lib.ListN.{length, getD, take, drop}
-use Rattle.std.proofs.shelf.Lists.{drop-more, drop-all, drop-drop, length-drop, length-append, getD-append-left, getD-append-add, getD-drop, drop-append-le}
+use lib.IntN.{ℤ, pos}
+use lib.ListN.{length, getD, drop}
+use Rattle.std.proofs.shelf.Lists.{drop-more, drop-all, length-drop, length-append, getD-append-left, getD-append-add, getD-drop, drop-append-le}
 use Rattle.std.proofs.shelf.Tests.{eq-eqb, ne-eqb, lt-ltb, le-ltb, le-leb, lt-leb, cases-lt, cond-true, cond-false, false≢true}
 use Rattle.std.proofs.shelf.Ways.{tells}
 use Rattle.std.specs.declared.option.Option.{Option}
 use Rattle.std.specs.declared.option.Option.the-variants.{Some, None}
 use Rattle.host.specs.Decimal.{decimal}
 use Rattle.host.specs.Stream.{endsRow, newlineBehind, separatorBehind, piece, pieceAt, textFrom, unread}
-use Rattle.host.specs.Text.{item, first, rest, rowLength, rowWithin}
+use Rattle.host.specs.Text.{item, first, rest, rowLength}
 use Rattle.host.specs.Tile.{tileText}
 use Rattle.host.proofs.Digits.{decimal-some, decimal-row}
 use Rattle.host.proofs.Rows.{plain-drop, row-append}
@@ -40,8 +40,8 @@ item-first (x ∷ xs) = cond-true _ _ _ (lt-ltb 0 (suc (length xs)) (omega arith
 pub item-digit : (ds ss : List ℕ) (n j c : ℕ) → n ≡ length ds → j < n → c ≡ getD ds j 0 → Some c ≡ item (ds ++ ss) j
 item-digit ds ss n j c e h v = ap Some v ∙ sym (item-left ds ss j (omega arith))
 
-pub item-mark : (ds ss : List ℕ) (n j : ℕ) (o : Option ℕ) → n ≡ length ds → j ≡ n → o ≡ first ss → o ≡ item (ds ++ ss) j
-item-mark ds ss n j o e h v = v ∙ sym (item-first ss) ∙ sym (item-right ds ss 0) ∙ ap (item (ds ++ ss)) (omega arith)
+pub item-separator : (ds ss : List ℕ) (n j : ℕ) (o : Option ℕ) → n ≡ length ds → j ≡ n → o ≡ first ss → o ≡ item (ds ++ ss) j
+item-separator ds ss n j o e h v = v ∙ sym (item-first ss) ∙ sym (item-right ds ss 0) ∙ ap (item (ds ++ ss)) (omega arith)
 
 -- what stands behind height k
 pub newline-last : (w k : ℕ) (hs : List ℤ) → length hs ≤ k + 1 → newlineBehind w k (drop (k + 1) hs) ≡ false

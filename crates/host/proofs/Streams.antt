@@ -1,20 +1,18 @@
 -- The text of a tile, read one height after another, is the text by rows.
 use mathlib.Core.Path.{_≡_, refl, sym, ap, _∙_}
 use mathlib.Core.List.{List, [], _∷_, _++_, map, append-assoc, append-nil}
-use mathlib.Core.Bool.{Bool, true, false, cond}
+use mathlib.Core.Bool.{true, false, cond}
 use mathlib.Core.Logic.{⊎-elim}
 use Prim.Native.Nat.{ℕ, zero, suc, _+_, _-_, _*_, _%_, _≤_, _<_}
 use native.Mathlib.Nat.{mul-mod-left, add-mod-right, suc-mul, zero-mul}
-use native.Mathlib.Numerals.{add-one}
 use native.Mathlib.Omega.{arith}
-use lib.Dec.{eqb, leb}
 use lib.IntN.{ℤ}
 use lib.ListN.{length, take, drop}
 use Rattle.std.proofs.shelf.Bits.{mod-mul-add}
 use Rattle.std.proofs.shelf.Lists.{take-all, drop-all, length-drop}
-use Rattle.std.proofs.shelf.Tests.{eq-eqb, ne-eqb, cases-lt, cond-true, cond-false}
+use Rattle.std.proofs.shelf.Tests.{eq-eqb, ne-eqb, cases-lt, cond-false}
 use Rattle.host.specs.Decimal.{decimal}
-use Rattle.host.specs.Stream.{endsRow, separatorBehind, piece, textFrom, unread}
+use Rattle.host.specs.Stream.{endsRow, separatorBehind, textFrom, unread}
 use Rattle.host.specs.Tile.{chunks, rows, separated, rowText, tileText}
 
 -- where no row ends before the last height, the text is that of one row

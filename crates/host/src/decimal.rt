@@ -1,6 +1,6 @@
 // The characters of a height's decimal, each by its place.
 ghost use mathlib.Core.Path.{_≡_};
-ghost use Prim.Native.Nat.{ℕ, _<_, _≤_};
+ghost use Prim.Native.Nat.{_<_, _≤_};
 ghost use lib.IntN.{pos};
 ghost use lib.ListN.{length as count, getD};
 ghost use Rattle.host.specs.Decimal.{decimal};

@@ -87,5 +87,7 @@ fn writes() -> Result<(), Fail> {
     check(host.put(LAST_CHARACTER))?;
     check(!host.put(65))?;
     check_eq(host.free(), 0)?;
-    check(host.output() == [LAST_CHARACTER])
+    check(host.output() == [LAST_CHARACTER])?;
+    let mut closed = ByteHost::new(b"", &mut []);
+    check(!closed.put(65))
 }

@@ -1,7 +1,3 @@
-use borrow.Author.Needs.{needs}
-use native.Mathlib.Omega.{arith}
-use mathlib.Core.Path.{_≡_}
-use Rattle.std.proofs.shelf.Lists.{take-all}
 use Rattle.host.proofs.Fronts.{take-within}
 use Rattle.host.proofs.output.Output.text.Needs as need
 

@@ -1,15 +1,14 @@
 use borrow.Author.Needs.{needs}
-use mathlib.Core.Path.{_≡_, sym, ap, _∙_}
 use native.Mathlib.Omega.{arith}
-use Prim.Native.Nat.{_+_, _<_}
+use Prim.Native.Nat.{_+_}
 use lib.IntN.{pos}
-use lib.ListN.{length, getD, drop, length-append}
+use lib.ListN.{getD, drop}
 use mir.Syntax.{w16}
 use mir.Val.{SFits}
 use Rattle.std.proofs.shelf.Signed.{toZ-ofZ}
 use Rattle.host.specs.Decimal.{decimal}
 use Rattle.host.specs.Stream.{separatorBehind}
-use Rattle.host.proofs.Pieces.{item-digit, item-mark, item-past}
+use Rattle.host.proofs.Pieces.{item-digit, item-separator, item-past}
 use Rattle.host.proofs.tiles.TileHost.character.Needs as need
 
 pub returns-then-j-digits : need.returns-then-j-digits
@@ -28,7 +27,7 @@ returns-then-j-digits c =
 pub returns-then-j-digits-2 : need.returns-then-j-digits-2
 returns-then-j-digits-2 c =
     let fits : SFits w16 (getD (c .args .self .now .heights .now) (c .args .k) (pos 0)) = search needs in
-    item-mark
+    item-separator
     (decimal (getD (c .args .self .now .heights .now) (c .args .k) (pos 0)))
     (separatorBehind (c .args .self .now .width) (c .args .k) (drop (c .args .k + 1) (c .args .self .now .heights .now)))
     (c .length-digits .result)

@@ -15,12 +15,12 @@ pub returns-in-Some : need.returns-in-Some
 returns-in-Some c =
     let fits : SFits w16 (getD (c .args .self .now .heights .now) (c .args .k) (pos 0)) = search needs in
     let digits : c .length-digits .result ≡ length (decimal (getD (c .args .self .now .heights .now) (c .args .k) (pos 0))) = simp toZ-ofZ at (c .length-digits .ensures .value) in
-    let mark = separator-some (c .args .self .now .width) (c .args .k) (drop (c .args .k + 1) (c .args .self .now .heights .now)) _ (c .in-Some .ensures tt) in
+    let behind = separator-some (c .args .self .now .width) (c .args .k) (drop (c .args .k + 1) (c .args .self .now .heights .now)) _ (c .in-Some .ensures tt) in
     record { value = simp length-append (omega arith); bound = omega arith }
 
 pub returns-in-None : need.returns-in-None
 returns-in-None c =
     let fits : SFits w16 (getD (c .args .self .now .heights .now) (c .args .k) (pos 0)) = search needs in
     let digits : c .length-digits .result ≡ length (decimal (getD (c .args .self .now .heights .now) (c .args .k) (pos 0))) = simp toZ-ofZ at (c .length-digits .ensures .value) in
-    let mark = separator-none (c .args .self .now .width) (c .args .k) (drop (c .args .k + 1) (c .args .self .now .heights .now)) (c .in-None .ensures tt) in
+    let behind = separator-none (c .args .self .now .width) (c .args .k) (drop (c .args .k + 1) (c .args .self .now .heights .now)) (c .in-None .ensures tt) in
     record { value = simp length-append (omega arith); bound = omega arith }

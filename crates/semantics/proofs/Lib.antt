@@ -1,0 +1,16 @@
+pub mod Lists
+pub mod Every
+pub mod Fuel
+pub mod Rest
+pub mod Spent
+pub mod Granted
+pub mod Room
+pub mod Undone
+pub mod Cells
+pub mod Takers
+pub mod Begun
+pub mod Kept
+pub mod Never
+pub mod Arithmetic
+pub mod Texts
+pub mod Examples

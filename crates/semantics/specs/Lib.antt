@@ -1,0 +1,11 @@
+pub mod State
+pub mod Numbers
+pub mod Rules
+pub mod Runs
+pub mod Grants
+pub mod Laws
+pub mod Sound
+pub mod Soundness
+pub mod Readings
+pub mod Sheets
+pub mod Starred
