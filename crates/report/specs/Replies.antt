@@ -14,7 +14,8 @@ use Rattle.sheet.specs.declared.refusal.Refusal.{Refusal}
 use Rattle.sheet.specs.declared.refusal.Refusal.the-variants.{Memory, Broken}
 use Rattle.sheet.specs.Outcome.{Outcome, good, bad}
 use Rattle.sheet.specs.Fields.{quad}
-use Rattle.sheet.specs.Sheets.{Decoded, decodedAt}
+use Rattle.sheet.specs.Sheets.{Decoded}
+use Rattle.checker.specs.Checked.{checkedAt}
 
 -- numbers with a space before each, and then r
 abbrev pub spaced : List ℕ → List ℕ → List ℕ
@@ -27,8 +28,8 @@ refusedText k p = codes "= refused" ++ spaced (ruleNumber k ∷ p ∷ []) (codes
 abbrev pub counts : Program → List ℕ
 counts P = length (P .names) ∷ length (P .constants) ∷ length (P .entries) ∷ length (P .nodes) ∷ length (P .globals) ∷ length (P .functions) ∷ []
 
-abbrev pub readText : Program → List ℕ
-readText P = codes "= read" ++ spaced (counts P) (codes "\n")
+abbrev pub checkedText : Program → List ℕ
+checkedText P = codes "= checked" ++ spaced (counts P) (codes "\n")
 
 -- the text is the line for the refusal; want of memory has none
 abbrev pub Refused : Refusal → List ℕ → Type 0
@@ -40,8 +41,8 @@ abbrev pub sheetLength : List ℕ → ℕ
 sheetLength bs = cond (ltb (length bs) 5) (length bs) (min (quad bs 1) (length bs))
 
 abbrev pub replyOf : Outcome Decoded → List ℕ
-replyOf (good d) = readText (d .program)
+replyOf (good d) = checkedText (d .program)
 replyOf (bad k p) = refusedText k p
 
 abbrev pub replyTo : List ℕ → List ℕ
-replyTo bs = replyOf (decodedAt (take (sheetLength bs) bs))
+replyTo bs = replyOf (checkedAt (take (sheetLength bs) bs))

@@ -6,10 +6,10 @@ ghost use lib.ListN.{length, take};
 ghost use Rattle.std.specs.Of.String.{string-bytes};
 ghost use Rattle.std.specs.Vec.{made};
 ghost use Rattle.sheet.specs.SheetsOf.{decodedOf};
-ghost use Rattle.report.specs.Replies.{Refused, readText, sheetLength, replyTo};
+ghost use Rattle.report.specs.Replies.{Refused, checkedText, sheetLength, replyTo};
+use checker::checked::check::check;
 use sheet::refusal::Refusal;
 use sheet::sheet::Sheet;
-use sheet::sheet::decode::decode;
 use std::alloc::AllocError;
 use std::alloc::Global;
 
@@ -26,8 +26,9 @@ fn refused(heap: Global, refusal: Refusal) -> Result<String, AllocError>
     }
 }
 
-fn read(heap: Global, sheet: &Sheet) -> Result<String, AllocError>
-    ensures { λ r. ⌜ made r (λ s. string-bytes s ≡ readText (decodedOf (now (sheet .entry)) .program)) ⌝ }
+// The line for an accepted sheet.
+fn accepted(heap: Global, sheet: &Sheet) -> Result<String, AllocError>
+    ensures { λ r. ⌜ made r (λ s. string-bytes s ≡ checkedText (decodedOf (now (sheet .entry)) .program)) ⌝ }
 {
     let names = sheet.names.len();
     let constants = sheet.constants.len();
@@ -37,7 +38,7 @@ fn read(heap: Global, sheet: &Sheet) -> Result<String, AllocError>
     let functions = sheet.functions.records.len();
     format!(
         heap,
-        "= read {names} {constants} {entries} {nodes} {globals} {functions}\n"
+        "= checked {names} {constants} {entries} {nodes} {globals} {functions}\n"
     )
 }
 
@@ -58,8 +59,8 @@ pub fn reply(heap: Global, input: &[u8]) -> Result<String, AllocError>
     ensures { λ r. ⌜ made r (λ s. string-bytes s ≡ replyTo (now (input .entry))) ⌝ }
 {
     let end = sheet_length(input);
-    match decode(heap, &input[0..end]) {
-        Ok(sheet) => read(heap, &sheet),
+    match check(heap, &input[0..end]) {
+        Ok(checked) => accepted(heap, &checked.sheet),
         Err(refusal) => refused(heap, refusal),
     }
 }

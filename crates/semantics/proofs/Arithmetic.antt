@@ -1,21 +1,21 @@
 -- Second readings of arithmetic: modulo, division, the nearest whole number.
-use mathlib.Core.Path.{_≡_, refl, sym, ap, _∙_, subst}
-use mathlib.Core.Bool.{Bool, true, false, cond, true≢false, false≢true}
+use mathlib.Core.Path.{_≡_, refl, sym, ap, _∙_}
+use mathlib.Core.Bool.{false, cond, true≢false}
 use Prim.Native.Nat.{ℕ, zero, suc, _+_, _-_, _*_, _/_, _%_, _^_, _<_, _≤_}
-use native.Mathlib.Nat.{zero-mul, mul-zero, mul-left-comm, mul-comm, mod-lt, div-add-mod', div-le-self, div-lt-iff-lt-mul}
+use native.Mathlib.Nat.{zero-mul, mul-left-comm, mod-lt, div-add-mod', div-le-self, div-lt-iff-lt-mul}
 use native.Mathlib.Decide.{decLt}
 use native.Mathlib.Omega.{arith}
 use lib.Dec.{eqb, ltb}
 use lib.IntN.{ℤ, pos, negsuc, _+ℤ_, _-ℤ_, _*ℤ_, negℤ, natAbs, subℕ}
-use lib.Signed.{quotZ, remZ, mag}
+use lib.Signed.{quotZ, mag}
 use mir.Syntax.{w64}
 use mir.Val.{SFits, toZ}
 use Rattle.std.specs.shelf.Signed.{wrapped}
 use Rattle.std.proofs.shelf.Signed.{ints, sfits-wrapped, wrapped-fits}
-use Rattle.std.proofs.shelf.Tests.{eqb-false, le-ltb, cond-both, ltb-true, ltb-false}
+use Rattle.std.proofs.shelf.Tests.{le-ltb, cond-both, ltb-true, ltb-false}
 use Rattle.semantics.specs.Numbers.{nearest, sameSign}
 use Rattle.semantics.specs.Rules.{isZero}
-use Rattle.semantics.specs.Readings.{IsModulo, WrappedIsModulo, SignOf, IsDivision, DivisionIsDivision, smallest, QuotientInRange, SmallestOverMinusOne, IsNearest, NearestIsNearest}
+use Rattle.semantics.specs.Readings.{WrappedIsModulo, DivisionIsDivision, smallest, QuotientInRange, SmallestOverMinusOne, NearestIsNearest}
 
 -- modulo
 

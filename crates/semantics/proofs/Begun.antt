@@ -1,21 +1,21 @@
 -- Beginning nodes under the invariant: first parts, lone statements, the entries of a block, a body.
-use mathlib.Core.Path.{_≡_, refl, sym, ap, _∙_, subst}
-use mathlib.Core.List.{List, [], _∷_, _++_, map}
-use mathlib.Core.Option.{Option, none, some, Option·none-ne-some, Option·some-injective}
-use mathlib.Core.Bool.{Bool, true, false, cond, true≢false, false≢true}
-use Prim.Native.Nat.{ℕ, zero, suc, _+_, _<_, _≤_}
+use mathlib.Core.Path.{_≡_, refl, sym, ap, subst}
+use mathlib.Core.List.{List, [], _∷_, _++_}
+use mathlib.Core.Option.{some, Option·none-ne-some, Option·some-injective}
+use mathlib.Core.Bool.{Bool, true, false, cond, false≢true}
+use Prim.Native.Nat.{ℕ, _<_, _≤_}
+use native.Mathlib.Omega.{arith}
 use lib.ListN.{length}
 use Rattle.xi.specs.declared.node.Node.{Node}
 use Rattle.xi.specs.declared.node.Node.the-variants.{Number, Truth, Text, Variable as VariableNode, Element, Length, Unary, Binary, Constructor, Call, LibraryCall}
 use Rattle.xi.specs.declared.node.Node.the-variants.{Declare, DeclareValue, DeclareCall, Assign, AssignElement, If, IfElse, While, Return, CallStatement, Target, Discard, Block}
-use Rattle.xi.specs.declared.node.Operator.{Operator}
 use Rattle.xi.specs.Program.{Program}
 use Rattle.xi.specs.Tree.{nodeAt, entriesOf, Sort, valueSort, callSort, statementSort, returnSort, blockSort, targetSort, sortOf, Place, expressionPlace, callPlace, statementPlace, targetPlace, suits}
 use Rattle.xi.specs.Tree.{Part, at, all, decidesEarly, firstParts, Each, PartStands}
-use Rattle.xi.specs.Typing.{Scope, pushed, Tables, givesAs, gives, declaredBy, Begins, Inherit, Follow, last, Ends, returnEnds, blockEnds, ifEnds, EndsWith}
-use Rattle.semantics.specs.State.{Value, Variable, Task, begin, finish, leave, back, keep}
+use Rattle.xi.specs.Typing.{Scope, pushed, Tables, callGives, givesAs, gives, declaredBy, Begins, Declarable, Inherit, Follow, last, Ends, returnEnds, blockEnds, ifEnds, EndsWith}
+use Rattle.semantics.specs.State.{Value, Variable, Task, begin, leave, back, keep}
 use Rattle.semantics.specs.Rules.{begins}
-use Rattle.semantics.specs.Sound.{Use, Values, Variables, Point, nowhere, live, begun, worked, Comes, comesOn, comesReturn, comesBlock, comesIf, Todo, toBegin, toFinish, toLeave, toBack, passBack, passLeave}
+use Rattle.semantics.specs.Sound.{Use, Values, Variables, Point, nowhere, live, begun, worked, Comes, comesOn, comesReturn, comesBlock, comesIf, Todo, noTasks, toBegin, toLeave, toBack, passBack, passLeave}
 use Rattle.semantics.proofs.Lists.{keep-pushed, pushed-append}
 
 -- places and sorts
@@ -137,81 +137,99 @@ first-places P Discard = tt
 first-places P (Block r) = tt
 
 -- a node that ends leads nowhere
-pub ends-nowhere : {P : Program} {T : Tables} {n : ℕ} {d : Node} (ts : List ℕ) → Ends P d → Comes P T n d ts nowhere
-ends-nowhere ts returnEnds = comesReturn
-ends-nowhere ts (blockEnds n e h) = comesBlock e h
-ends-nowhere ts (ifEnds a b) = comesIf a b
+pub ends-nowhere : {P : Program} {T : Tables} {n : ℕ} {d : Node} → Ends P d → Comes P T n d [] nowhere
+ends-nowhere returnEnds = comesReturn
+ends-nowhere (blockEnds n e h) = comesBlock e h
+ends-nowhere (ifEnds a b) = comesIf a b
 
-module _ (P : Program) (T : Tables) (level : ℕ → ℕ) (K : List Use) where
-  begin-at : {r : List ℕ} {Γ : Scope} {ts : List ℕ} {a : Point} {k : List Task} (n : ℕ) → T .scope n ≡ Γ → T .owed n ≡ r → begun (sortOf (nodeAt P n)) ≡ true →
-      Comes P T n (nodeAt P n) ts a → Todo P T K r a k → Todo P T K r (live Γ ts) (begin n ∷ k)
-  begin-at {r} {Γ} {ts} {a} {k} n e q b c d =
-      subst (λ (Γ : Scope). Todo P T K r (live Γ ts) (begin n ∷ k)) e
-      (subst (λ (r : List ℕ). Todo P T K r (live (T .scope n) ts) (begin n ∷ k)) q (toBegin b c (subst (λ (r : List ℕ). Todo P T K r a k) (sym q) d)))
+-- at most 64 names are in scope behind a declaration
+pub few-declared : (P : Program) (bs Γ : Scope) → Declarable P Γ bs → length Γ ≤ 64 → length (pushed bs Γ) ≤ 64
+few-declared P [] Γ d h = h
+few-declared P (b ∷ bs) Γ d h = few-declared P bs (b ∷ Γ) (d .3) (d .2)
 
-  pub begin-on : {r : List ℕ} {Γ : Scope} {ts : List ℕ} {k : List Task} (n : ℕ) → T .scope n ≡ Γ → T .owed n ≡ r → begun (sortOf (nodeAt P n)) ≡ true →
-      Todo P T K r (live (pushed (declaredBy P (nodeAt P n)) Γ) (pushed (gives P T n) ts)) k → Todo P T K r (live Γ ts) (begin n ∷ k)
-  begin-on {r} {Γ} {ts} {k} n e q b d =
-      begin-at n e q b comesOn (subst (λ (Γ : Scope). Todo P T K r (live (pushed (declaredBy P (nodeAt P n)) Γ) (pushed (gives P T n) ts)) k) (sym e) d)
+module _ (P : Program) (T : Tables) (V : ℕ → ℕ) (names : (n : ℕ) → Declarable P (T .scope n) (declaredBy P (nodeAt P n))) (K : List Use) where
+  begin-at : {r : List ℕ} {l : ℕ} {Γ : Scope} {ts : List ℕ} {a : Point} {k : List Task} (n : ℕ) → T .scope n ≡ Γ → T .owed n ≡ r → length Γ ≤ 64 → l < V n → begun (sortOf (nodeAt P n)) ≡ true →
+      Comes P T n (nodeAt P n) ts a → Todo P T V K r l a k → Todo P T V K r l (live Γ ts) (begin n ∷ k)
+  begin-at {r} {l} {Γ} {ts} {a} {k} n e q f v b c d =
+      subst (λ (Γ : Scope). Todo P T V K r l (live Γ ts) (begin n ∷ k)) e
+      (subst (λ (r : List ℕ). Todo P T V K r l (live (T .scope n) ts) (begin n ∷ k)) q
+      (toBegin (record { runs = b; deeper = v; few = subst (λ (Γ : Scope). length Γ ≤ 64) (sym e) f }) c (subst (λ (r : List ℕ). Todo P T V K r l a k) (sym q) d)))
 
-  begin-ends : {r : List ℕ} {Γ : Scope} {ts : List ℕ} {k : List Task} (n : ℕ) → T .scope n ≡ Γ → T .owed n ≡ r → begun (sortOf (nodeAt P n)) ≡ true →
-      Ends P (nodeAt P n) → Todo P T K r nowhere k → Todo P T K r (live Γ ts) (begin n ∷ k)
-  begin-ends {ts = ts} n e q b h d = begin-at n e q b (ends-nowhere ts h) d
+  begin-on : {r : List ℕ} {l : ℕ} {Γ : Scope} {ts : List ℕ} {k : List Task} (n : ℕ) → T .scope n ≡ Γ → T .owed n ≡ r → length Γ ≤ 64 → l < V n → begun (sortOf (nodeAt P n)) ≡ true →
+      Todo P T V K r l (live (pushed (declaredBy P (nodeAt P n)) Γ) (pushed (gives P T n) ts)) k → Todo P T V K r l (live Γ ts) (begin n ∷ k)
+  begin-on {r} {l} {Γ} {ts} {k} n e q f v b d =
+      begin-at n e q f v b comesOn (subst (λ (Γ : Scope). Todo P T V K r l (live (pushed (declaredBy P (nodeAt P n)) Γ) (pushed (gives P T n) ts)) k) (sym e) d)
+
+  begin-ends : {r : List ℕ} {l : ℕ} {Γ : Scope} {k : List Task} (n : ℕ) → T .scope n ≡ Γ → T .owed n ≡ r → length Γ ≤ 64 → l < V n → begun (sortOf (nodeAt P n)) ≡ true →
+      Ends P (nodeAt P n) → Todo P T V K r l nowhere k → Todo P T V K r l (live Γ []) (begin n ∷ k)
+  begin-ends n e q f v b h d = begin-at n e q f v b (ends-nowhere h) d
+
+  few-behind : {Γ : Scope} (n : ℕ) → T .scope n ≡ Γ → length Γ ≤ 64 → length (pushed (declaredBy P (nodeAt P n)) Γ) ≤ 64
+  few-behind {Γ} n e f = few-declared P (declaredBy P (nodeAt P n)) Γ (subst (λ (Γ : Scope). Declarable P Γ (declaredBy P (nodeAt P n))) e (names n)) f
 
   -- a part that is an expression or a call
-  pub begin-first : {m : ℕ} {Γ : Scope} {ts : List ℕ} {k : List Task} (p : Part) → isFirst (p .place) ≡ true → PartStands P level m p → Begins T m Γ p →
-      Todo P T K (T .owed m) (live Γ (pushed (gives P T (p .number)) ts)) k → Todo P T K (T .owed m) (live Γ ts) (begin (p .number) ∷ k)
-  begin-first {m} {Γ} {ts} {k} p f st b d =
+  pub begin-first : {m l : ℕ} {Γ : Scope} {ts : List ℕ} {k : List Task} (p : Part) → isFirst (p .place) ≡ true → PartStands P V m p → Begins T m Γ p → length Γ ≤ 64 → l ≤ V m →
+      Todo P T V K (T .owed m) l (live Γ (pushed (gives P T (p .number)) ts)) k → Todo P T V K (T .owed m) l (live Γ ts) (begin (p .number) ∷ k)
+  begin-first {m} {l} {Γ} {ts} {k} p f st b w v d =
       let i = first-sort (p .place) (sortOf (nodeAt P (p .number))) f (st .suited) in
-      begin-on (p .number) (b .scope) (b .owed) (first-begun (sortOf (nodeAt P (p .number))) i)
-      (subst (λ (bs : Scope). Todo P T K (T .owed m) (live (pushed bs Γ) (pushed (gives P T (p .number)) ts)) k) (sym (no-names P (nodeAt P (p .number)) i)) d)
+      begin-on (p .number) (b .scope) (b .owed) w (omega (arith, st .below)) (first-begun (sortOf (nodeAt P (p .number))) i)
+      (subst (λ (bs : Scope). Todo P T V K (T .owed m) l (live (pushed bs Γ) (pushed (gives P T (p .number)) ts)) k) (sym (no-names P (nodeAt P (p .number)) i)) d)
 
-  pub begin-firsts : {m : ℕ} {k : List Task} (ps : List Part) (ts : List ℕ) → Each (λ (p : Part). isFirst (p .place) ≡ true) ps → Each (PartStands P level m) ps → Inherit T m ps →
-      Todo P T K (T .owed m) (live (T .scope m) (worked P T ps ts)) k → Todo P T K (T .owed m) (live (T .scope m) ts) (begins ps k)
-  begin-firsts [] ts f st b d = d
-  begin-firsts {m} (p ∷ ps) ts f st b d = begin-first p (f .0) (st .0) (b .0) (begin-firsts ps (pushed (gives P T (p .number)) ts) (f .1) (st .1) (b .1) d)
+  pub begin-firsts : {m : ℕ} {k : List Task} (ps : List Part) (ts : List ℕ) → Each (λ (p : Part). isFirst (p .place) ≡ true) ps → Each (PartStands P V m) ps → Inherit T m ps → length (T .scope m) ≤ 64 →
+      Todo P T V K (T .owed m) (V m) (live (T .scope m) (worked P T ps ts)) k → Todo P T V K (T .owed m) (V m) (live (T .scope m) ts) (begins ps k)
+  begin-firsts [] ts f st b w d = d
+  begin-firsts {m} (p ∷ ps) ts f st b w d = begin-first p (f .0) (st .0) (b .0) w (omega arith) (begin-firsts ps (pushed (gives P T (p .number)) ts) (f .1) (st .1) (b .1) w d)
 
   -- a lone statement: its names end with it
-  pub alone-on : {m j : ℕ} {Γ : Scope} {ts : List ℕ} {k : List Task} (a : ℕ) → PartStands P level m (at statementPlace a) → Begins T m Γ (at statementPlace a) → length Γ ≡ j →
-      Todo P T K (T .owed m) (live Γ ts) k → Todo P T K (T .owed m) (live Γ ts) (begin a ∷ leave j ∷ k)
-  alone-on {m} {j} {Γ} {ts} {k} a st b l d =
-      begin-on a (b .scope) (b .owed) (statement-begun (sortOf (nodeAt P a)) (st .suited))
-      (subst (λ (g : List ℕ). Todo P T K (T .owed m) (live (pushed (declaredBy P (nodeAt P a)) Γ) (pushed g ts)) (leave j ∷ k)) (sym (statement-gives _ _ (sortOf (nodeAt P a)) (st .suited)))
-      (toLeave (subst (λ (j : ℕ). Todo P T K (T .owed m) (live (keep j (pushed (declaredBy P (nodeAt P a)) Γ)) ts) k) l
-      (subst (λ (Δ : Scope). Todo P T K (T .owed m) (live Δ ts) k) (sym (keep-pushed (declaredBy P (nodeAt P a)) Γ)) d))))
+  pub alone-on : {m j l : ℕ} {Γ : Scope} {ts : List ℕ} {k : List Task} (a : ℕ) → PartStands P V m (at statementPlace a) → Begins T m Γ (at statementPlace a) → length Γ ≤ 64 → l ≤ V m → length Γ ≡ j →
+      Todo P T V K (T .owed m) l (live Γ ts) k → Todo P T V K (T .owed m) (V m) (live Γ ts) (begin a ∷ leave j ∷ k)
+  alone-on {m} {j} {l} {Γ} {ts} {k} a st b w v e d =
+      begin-on a (b .scope) (b .owed) w (omega (arith, st .below)) (statement-begun (sortOf (nodeAt P a)) (st .suited))
+      (subst (λ (g : List ℕ). Todo P T V K (T .owed m) (V m) (live (pushed (declaredBy P (nodeAt P a)) Γ) (pushed g ts)) (leave j ∷ k)) (sym (statement-gives _ _ (sortOf (nodeAt P a)) (st .suited)))
+      (toLeave v (few-behind a (b .scope) w) (subst (λ (j : ℕ). Todo P T V K (T .owed m) l (live (keep j (pushed (declaredBy P (nodeAt P a)) Γ)) ts) k) e
+      (subst (λ (Δ : Scope). Todo P T V K (T .owed m) l (live Δ ts) k) (sym (keep-pushed (declaredBy P (nodeAt P a)) Γ)) d))))
 
-  pub alone-ends : {m j : ℕ} {Γ : Scope} {ts : List ℕ} {k : List Task} (a : ℕ) → PartStands P level m (at statementPlace a) → Begins T m Γ (at statementPlace a) → Ends P (nodeAt P a) →
-      Todo P T K (T .owed m) nowhere k → Todo P T K (T .owed m) (live Γ ts) (begin a ∷ leave j ∷ k)
-  alone-ends a st b h d = begin-ends a (b .scope) (b .owed) (statement-begun (sortOf (nodeAt P a)) (st .suited)) h (passLeave d)
+  pub alone-ends : {m j l : ℕ} {Γ : Scope} {k : List Task} (a : ℕ) → PartStands P V m (at statementPlace a) → Begins T m Γ (at statementPlace a) → length Γ ≤ 64 → l ≤ V m → Ends P (nodeAt P a) →
+      Todo P T V K (T .owed m) l nowhere k → Todo P T V K (T .owed m) (V m) (live Γ []) (begin a ∷ leave j ∷ k)
+  alone-ends a st b w v h d = begin-ends a (b .scope) (b .owed) w (omega (arith, st .below)) (statement-begun (sortOf (nodeAt P a)) (st .suited)) h (passLeave v d)
 
   -- the entries of a block, each in the scope after the one before
-  entries-on : {m j : ℕ} {ts : List ℕ} {k : List Task} (Γ : Scope) (es : List ℕ) (bs : Scope) → Each (PartStands P level m) (all statementPlace es) →
-      Follow P T m (pushed bs Γ) (all statementPlace es) → length Γ ≡ j → Todo P T K (T .owed m) (live Γ ts) k → Todo P T K (T .owed m) (live (pushed bs Γ) ts) (begins (all statementPlace es) (leave j ∷ k))
-  entries-on {m} {j} {ts} {k} Γ [] bs st b l d =
-      toLeave (subst (λ (j : ℕ). Todo P T K (T .owed m) (live (keep j (pushed bs Γ)) ts) k) l (subst (λ (Δ : Scope). Todo P T K (T .owed m) (live Δ ts) k) (sym (keep-pushed bs Γ)) d))
-  entries-on {m} {j} {ts} {k} Γ (e ∷ es) bs st b l d =
-      let w : pushed (bs ++ declaredBy P (nodeAt P e)) Γ ≡ pushed (declaredBy P (nodeAt P e)) (pushed bs Γ) = pushed-append bs (declaredBy P (nodeAt P e)) Γ in
-      begin-on e (b .0 .scope) (b .0 .owed) (statement-begun (sortOf (nodeAt P e)) (st .0 .suited))
-      (subst (λ (g : List ℕ). Todo P T K (T .owed m) (live (pushed (declaredBy P (nodeAt P e)) (pushed bs Γ)) (pushed g ts)) (begins (all statementPlace es) (leave j ∷ k))) (sym (statement-gives _ _ (sortOf (nodeAt P e)) (st .0 .suited)))
-      (subst (λ (Δ : Scope). Todo P T K (T .owed m) (live Δ ts) (begins (all statementPlace es) (leave j ∷ k))) w
-      (entries-on Γ es (bs ++ declaredBy P (nodeAt P e)) (st .1) (subst (λ (Δ : Scope). Follow P T m Δ (all statementPlace es)) (sym w) (b .1)) l d)))
+  entries-on : {m j l : ℕ} {ts : List ℕ} {k : List Task} (Γ : Scope) (es : List ℕ) (bs : Scope) → Each (PartStands P V m) (all statementPlace es) →
+      Follow P T m (pushed bs Γ) (all statementPlace es) → length (pushed bs Γ) ≤ 64 → l ≤ V m → length Γ ≡ j → Todo P T V K (T .owed m) l (live Γ ts) k →
+      Todo P T V K (T .owed m) (V m) (live (pushed bs Γ) ts) (begins (all statementPlace es) (leave j ∷ k))
+  entries-on {m} {j} {l} {ts} {k} Γ [] bs st b w v e d =
+      toLeave v w (subst (λ (j : ℕ). Todo P T V K (T .owed m) l (live (keep j (pushed bs Γ)) ts) k) e (subst (λ (Δ : Scope). Todo P T V K (T .owed m) l (live Δ ts) k) (sym (keep-pushed bs Γ)) d))
+  entries-on {m} {j} {l} {ts} {k} Γ (x ∷ es) bs st b w v e d =
+      let q : pushed (bs ++ declaredBy P (nodeAt P x)) Γ ≡ pushed (declaredBy P (nodeAt P x)) (pushed bs Γ) = pushed-append bs (declaredBy P (nodeAt P x)) Γ in
+      begin-on x (b .0 .scope) (b .0 .owed) w (omega (arith, st .0 .below)) (statement-begun (sortOf (nodeAt P x)) (st .0 .suited))
+      (subst (λ (g : List ℕ). Todo P T V K (T .owed m) (V m) (live (pushed (declaredBy P (nodeAt P x)) (pushed bs Γ)) (pushed g ts)) (begins (all statementPlace es) (leave j ∷ k))) (sym (statement-gives _ _ (sortOf (nodeAt P x)) (st .0 .suited)))
+      (subst (λ (Δ : Scope). Todo P T V K (T .owed m) (V m) (live Δ ts) (begins (all statementPlace es) (leave j ∷ k))) q
+      (entries-on Γ es (bs ++ declaredBy P (nodeAt P x)) (st .1) (subst (λ (Δ : Scope). Follow P T m Δ (all statementPlace es)) (sym q) (b .1))
+      (subst (λ (Δ : Scope). length Δ ≤ 64) (sym q) (few-behind x (b .0 .scope) w)) v e d)))
 
-  pub block-on : {m j : ℕ} {ts : List ℕ} {k : List Task} (Γ : Scope) (es : List ℕ) → Each (PartStands P level m) (all statementPlace es) → Follow P T m Γ (all statementPlace es) → length Γ ≡ j →
-      Todo P T K (T .owed m) (live Γ ts) k → Todo P T K (T .owed m) (live Γ ts) (begins (all statementPlace es) (leave j ∷ k))
-  block-on Γ es st b l d = entries-on Γ es [] st b l d
+  pub block-on : {m j l : ℕ} {ts : List ℕ} {k : List Task} (Γ : Scope) (es : List ℕ) → Each (PartStands P V m) (all statementPlace es) → Follow P T m Γ (all statementPlace es) → length Γ ≤ 64 → l ≤ V m → length Γ ≡ j →
+      Todo P T V K (T .owed m) l (live Γ ts) k → Todo P T V K (T .owed m) (V m) (live Γ ts) (begins (all statementPlace es) (leave j ∷ k))
+  block-on Γ es st b w v e d = entries-on Γ es [] st b w v e d
 
-  pub block-ends : {m : ℕ} {ts : List ℕ} {k : List Task} (j : ℕ) (Γ : Scope) (es : List ℕ) (n : ℕ) → last es ≡ some n → Ends P (nodeAt P n) → Each (PartStands P level m) (all statementPlace es) →
-      Follow P T m Γ (all statementPlace es) → Todo P T K (T .owed m) nowhere k → Todo P T K (T .owed m) (live Γ ts) (begins (all statementPlace es) (leave j ∷ k))
-  block-ends j Γ [] n q h st b d = absurd (Option·none-ne-some _ q)
-  block-ends j Γ (e ∷ []) n q h st b d =
-      begin-ends e (b .0 .scope) (b .0 .owed) (statement-begun (sortOf (nodeAt P e)) (st .0 .suited)) (subst (λ (m : ℕ). Ends P (nodeAt P m)) (sym (Option·some-injective _ _ q)) h) (passLeave d)
-  block-ends {m} {ts} {k} j Γ (e ∷ f ∷ es) n q h st b d =
-      begin-on e (b .0 .scope) (b .0 .owed) (statement-begun (sortOf (nodeAt P e)) (st .0 .suited))
-      (subst (λ (g : List ℕ). Todo P T K (T .owed m) (live (pushed (declaredBy P (nodeAt P e)) Γ) (pushed g ts)) (begins (all statementPlace (f ∷ es)) (leave j ∷ k))) (sym (statement-gives _ _ (sortOf (nodeAt P e)) (st .0 .suited)))
-      (block-ends j (pushed (declaredBy P (nodeAt P e)) Γ) (f ∷ es) n q h (st .1) (b .1) d))
+  pub block-ends : {m l : ℕ} {k : List Task} (j : ℕ) (Γ : Scope) (es : List ℕ) (n : ℕ) → last es ≡ some n → Ends P (nodeAt P n) → Each (PartStands P V m) (all statementPlace es) →
+      Follow P T m Γ (all statementPlace es) → length Γ ≤ 64 → l ≤ V m → Todo P T V K (T .owed m) l nowhere k → Todo P T V K (T .owed m) (V m) (live Γ []) (begins (all statementPlace es) (leave j ∷ k))
+  block-ends j Γ [] n q h st b w v d = absurd (Option·none-ne-some _ q)
+  block-ends j Γ (e ∷ []) n q h st b w v d =
+      begin-ends e (b .0 .scope) (b .0 .owed) w (omega (arith, st .0 .below)) (statement-begun (sortOf (nodeAt P e)) (st .0 .suited)) (subst (λ (m : ℕ). Ends P (nodeAt P m)) (sym (Option·some-injective _ _ q)) h) (passLeave v d)
+  block-ends {m} {k = k} j Γ (e ∷ f ∷ es) n q h st b w v d =
+      begin-on e (b .0 .scope) (b .0 .owed) w (omega (arith, st .0 .below)) (statement-begun (sortOf (nodeAt P e)) (st .0 .suited))
+      (subst (λ (g : List ℕ). Todo P T V K (T .owed m) (V m) (live (pushed (declaredBy P (nodeAt P e)) Γ) (pushed g [])) (begins (all statementPlace (f ∷ es)) (leave j ∷ k))) (sym (statement-gives _ _ (sortOf (nodeAt P e)) (st .0 .suited)))
+      (block-ends j (pushed (declaredBy P (nodeAt P e)) Γ) (f ∷ es) n q h (st .1) (b .1) (few-behind e (b .0 .scope) w) v d))
+
+  -- the body of `main`
+  pub main-on : {Γ : Scope} (n : ℕ) → T .scope n ≡ Γ → T .owed n ≡ [] → length Γ ≤ 64 → 0 < V n → sortOf (nodeAt P n) ≡ blockSort → Todo P T V K [] 0 (live Γ []) (begin n ∷ [])
+  main-on {Γ} n e w f v b =
+      begin-on n e w f v (ap begun b) (subst (λ (g : List ℕ). Todo P T V K [] 0 (live (pushed (declaredBy P (nodeAt P n)) Γ) (pushed g [])) []) (sym (ap (λ (s : Sort). givesAs s (T .type n) (callGives P (nodeAt P n))) b)) (noTasks (few-behind n e f)))
 
   -- a body, and behind it the caller
-  pub body-on : {q : List ℕ} {Γ Δ : Scope} {us : List ℕ} {E : List Variable} {O : List Value} {k : List Task} (n : ℕ) (r : List ℕ) → T .scope n ≡ Γ → T .owed n ≡ r →
-      sortOf (nodeAt P n) ≡ blockSort → EndsWith P r (nodeAt P n) → Variables K Δ E → Values K us O → Todo P T K q (live Δ (pushed r us)) k → Todo P T K r (live Γ []) (begin n ∷ back E O ∷ k)
-  body-on n [] e w b h v o d = begin-on n e w (ap begun b) (toBack v o d)
-  body-on n (t ∷ ts) e w b h v o d = begin-ends n e w (ap begun b) h (passBack v o d)
+  pub body-on : {q : List ℕ} {l : ℕ} {Γ : Scope} {us : List ℕ} {E : List Variable} {O : List Value} {k : List Task} (n : ℕ) (r : List ℕ) (m : ℕ) → T .scope n ≡ Γ → T .owed n ≡ r → length Γ ≤ 64 → 0 < V n →
+      sortOf (nodeAt P n) ≡ blockSort → EndsWith P r (nodeAt P n) → l < 32 → length (T .scope m) ≤ 64 → sortOf (nodeAt P m) ≡ callSort → Variables K (T .scope m) E → Values K us O →
+      Todo P T V K q l (live (T .scope m) (pushed r us)) k → Todo P T V K r 0 (live Γ []) (begin n ∷ back E O ∷ k)
+  body-on {Γ = Γ} {E = E} {O} {k} n [] m e w f v b h x y c z o d =
+      begin-on n e w f v (ap begun b) (subst (λ (g : List ℕ). Todo P T V K [] 0 (live (pushed (declaredBy P (nodeAt P n)) Γ) (pushed g [])) (back E O ∷ k)) (sym (ap (λ (s : Sort). givesAs s (T .type n) (callGives P (nodeAt P n))) b)) (toBack m (few-behind n e f) x y c z o d))
+  body-on n (t ∷ ts) m e w f v b h x y c z o d = begin-ends n e w f v (ap begun b) h (passBack m x y c z o d)

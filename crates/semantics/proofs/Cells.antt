@@ -1,25 +1,25 @@
 -- The heap: what is in it stays as it grows, an element can be set, an array can be made.
 use mathlib.Core.Path.{_≡_, refl, sym, ap, _∙_, subst}
-use mathlib.Core.List.{List, [], _∷_, _++_, map, append-assoc}
+use mathlib.Core.List.{List, [], _∷_, _++_, append-assoc}
 use mathlib.Core.Option.{Option, none, some, Option·none-ne-some, Option·some-injective}
-use mathlib.Core.Bool.{Bool, true, false, cond}
+use mathlib.Core.Bool.{true, false, cond}
 use mathlib.Core.Logic.{_⊎_, inl, inr}
 use Prim.Native.Nat.{ℕ, zero, suc, _+_, _-_, _*_, _<_, _≤_}
-use native.Mathlib.Nat.{zero-add, suc-add, add-zero, add-suc, zero-mul, mul-zero, suc-mul, not-suc-le-zero, le-of-suc-le-suc}
+use native.Mathlib.Nat.{add-zero, zero-mul, mul-zero, suc-mul, not-suc-le-zero, le-of-suc-le-suc}
 use native.Mathlib.Omega.{arith}
-use lib.IntN.{ℤ, pos}
+use lib.IntN.{pos}
 use lib.Dec.{eqb, eqb·suc-zero, eqb·suc-suc}
 use lib.ListN.{length, getElem?, drop, take, set, replicate, length-append, length-set, length-replicate}
 use Rattle.xi.specs.declared.program.GlobalVariable.{GlobalVariable}
 use Rattle.xi.specs.Program.{Program}
 use Rattle.xi.specs.Tree.{Each}
-use Rattle.xi.specs.Typing.{Binding, Scope, pushed, Tables, typeIn, globalType}
+use Rattle.xi.specs.Typing.{Scope, Tables, typeIn, globalType}
 use Rattle.xi.specs.Obeys.{depthOf}
-use Rattle.semantics.specs.State.{Value, int, bool, array, Slot, Variable, variable, Made, Store, Task, find, put, keep, findGlobal, putGlobal, elementType, grown, withCell, elementsAt}
-use Rattle.semantics.specs.Numbers.{cellsFor, elementOf, filled, nested}
+use Rattle.semantics.specs.State.{Value, int, array, Slot, Variable, variable, Made, Store, Task, find, put, keep, findGlobal, putGlobal, elementType, grown, withCell}
+use Rattle.semantics.specs.Numbers.{cellsFor, filled, nested}
 use Rattle.semantics.specs.Sound.{Use, header, element, ArrayAt, Has, hasInt, hasBool, hasArray, Holds, unset, holds, Cell, isHeader, isElement, Cells, noCells, moreCells, Values, noValues, moreValues}
 use Rattle.semantics.specs.Sound.{Variables, noVariables, moreVariables, Globals, noGlobals, moreGlobals, Point, Todo, noTasks, toBegin, toFinish, toLeave, toBack, passEnd, passBegin, passFinish, passLeave, passBack, Owned, Heap}
-use Rattle.semantics.proofs.Lists.{at-append, at-end, at-first, at-replicate, at-drop, at-less, append-nil}
+use Rattle.semantics.proofs.Lists.{at-append, at-end, at-first, at-replicate, at-drop, append-nil}
 
 -- a heap that grows keeps what it holds
 
@@ -56,17 +56,17 @@ module _ (K X : List Use) where
   globals-more noGlobals = noGlobals
   globals-more (moreGlobals h r) = moreGlobals (holds-more h) (globals-more r)
 
-  pub todo-more : {P : Program} {T : Tables} {r : List ℕ} {a : Point} {k : List Task} → Todo P T K r a k → Todo P T (K ++ X) r a k
-  todo-more noTasks = noTasks
+  pub todo-more : {P : Program} {T : Tables} {V : ℕ → ℕ} {r : List ℕ} {l : ℕ} {a : Point} {k : List Task} → Todo P T V K r l a k → Todo P T V (K ++ X) r l a k
+  todo-more (noTasks f) = noTasks f
   todo-more (toBegin b c k) = toBegin b c (todo-more k)
   todo-more (toFinish b c k) = toFinish b c (todo-more k)
-  todo-more (toLeave k) = toLeave (todo-more k)
-  todo-more (toBack e o k) = toBack (variables-more e) (values-more o) (todo-more k)
+  todo-more (toLeave h f k) = toLeave h f (todo-more k)
+  todo-more (toBack n g h f c e o k) = toBack n g h f c (variables-more e) (values-more o) (todo-more k)
   todo-more passEnd = passEnd
   todo-more (passBegin k) = passBegin (todo-more k)
-  todo-more (passFinish k) = passFinish (todo-more k)
-  todo-more (passLeave k) = passLeave (todo-more k)
-  todo-more (passBack e o k) = passBack (variables-more e) (values-more o) (todo-more k)
+  todo-more (passFinish h k) = passFinish h (todo-more k)
+  todo-more (passLeave h k) = passLeave h (todo-more k)
+  todo-more (passBack n h f c e o k) = passBack n h f c (variables-more e) (values-more o) (todo-more k)
 
 -- variables and globals
 
@@ -222,6 +222,7 @@ pub record Grew (K : List Use) (s : Store) (t n m : ℕ) (s′ : Store) : Type 0
   pub heap : Heap (K ++ more) s′
   pub array : ArrayAt (K ++ more) (length (s .cells)) t
   pub globals : s′ .globals ≡ s .globals
+  pub depth : s′ .depth ≡ s .depth
   pub size : length (s′ .cells) ≡ length (s .cells) + m
 
 pub grown-grew : {K : List Use} (s : Store) (t : ℕ) (cs : List Slot) → Heap K s → Each (Holds K t) cs → Grew K s t (length cs) (suc (length cs)) (grown s t cs)
@@ -235,6 +236,7 @@ grown-grew {K} s t cs c h = record {
   };
   array = rw (← cells-length (c .cells)) (array-new K t (length cs));
   globals = refl;
+  depth = refl;
   size = length-append (s .cells) (some (int (pos (length cs))) ∷ cs);
 }
   where
@@ -254,11 +256,12 @@ record Filled (K : List Use) (s : Store) (m : ℕ) (s′ : Store) : Type 0 where
   more : List Use
   heap : Heap (K ++ more) s′
   globals : s′ .globals ≡ s .globals
+  depth : s′ .depth ≡ s .depth
   size : length (s′ .cells) ≡ length (s .cells) + m
 
 fill-grew : (t l m : ℕ) (make : Store → Store) → ((K : List Use) (s : Store) → Heap K s → Grew K s t l m (make s)) →
     (n c : ℕ) (K : List Use) (s : Store) → Heap K s → ((i : ℕ) → i < n → getElem? K (c + i) ≡ some (element (suc (suc t)))) → Filled K s (n * m) (filled n c make s)
-fill-grew t l m make f zero c K s h e = record { more = []; heap = rw (append-nil K) h; globals = refl; size = omega (arith, zero-mul m) }
+fill-grew t l m make f zero c K s h e = record { more = []; heap = rw (append-nil K) h; globals = refl; depth = refl; size = omega (arith, zero-mul m) }
 fill-grew t l m make f (suc n) c K s h e =
     let g = f K s h in
     let q : getElem? (K ++ g .more) c ≡ some (element (suc (suc t))) = at-append K (g .more) c (rw (← add-zero c) (e 0 (omega arith))) in
@@ -269,6 +272,7 @@ fill-grew t l m make f (suc n) c K s h e =
       more = g .more ++ r .more;
       heap = rw (← append-assoc K (g .more) (r .more)) (r .heap);
       globals = r .globals ∙ g .globals;
+      depth = r .depth ∙ g .depth;
       size = r .size ∙ ap (λ (z : ℕ). z + n * m) (length-set (make s .cells) c (some (array (length (s .cells)))) ∙ g .size) ∙ adds (length (s .cells)) m n;
     }
   where
@@ -284,6 +288,7 @@ nested-one t n K s h =
       heap = g .heap;
       array = g .array;
       globals = g .globals;
+      depth = g .depth;
       size = g .size ∙ ap (λ (z : ℕ). length (s .cells) + suc z) (length-replicate n none) ∙ omega (arith, mul-zero n);
     }
 
@@ -299,6 +304,7 @@ nested-more t n l m make f K s h =
       heap = rw (← append-assoc K (g .more) (r .more)) (r .heap);
       array = rw (← append-assoc K (g .more) (r .more)) (array-more (K ++ g .more) (r .more) (g .array));
       globals = r .globals ∙ g .globals;
+      depth = r .depth ∙ g .depth;
       size = r .size ∙ ap (λ (z : ℕ). z + n * m) (g .size) ∙ omega (arith, mul-zero n);
     }
 

@@ -1,16 +1,11 @@
 -- One walk over the rules: what holds of stops and of the few ways in which a rule goes on holds of every rule.
-use mathlib.Core.Path.{_≡_, refl, sym, ap, _∙_, subst}
 use mathlib.Core.List.{List, [], _∷_, _++_, map}
 use mathlib.Core.Option.{Option, none, some}
-use mathlib.Core.Bool.{Bool, true, false, cond, not}
-use Prim.Native.Nat.{ℕ, zero, suc, _+_, _-_, _≤_}
-use lib.IntN.{ℤ, pos, negsuc, _+ℤ_, _-ℤ_, _*ℤ_, negℤ}
+use mathlib.Core.Bool.{Bool, true, false, cond}
+use Prim.Native.Nat.{ℕ, zero, suc, _+_, _≤_}
+use lib.IntN.{ℤ, pos, negsuc}
 use lib.ListN.{length, getElem?}
-use lib.Dec.{leb, ltb, eqb, T, leb→le}
-use lib.Signed.{ltZ, leZ, quotZ, remZ}
-use mir.Syntax.{w64}
-use Rattle.std.specs.shelf.Signed.{wrapped}
-use Rattle.std.specs.Written.{signed}
+use lib.Dec.{leb, ltb, T, leb→le}
 use Rattle.xi.specs.declared.node.Node.{Node}
 use Rattle.xi.specs.declared.node.Node.the-variants.{Number, Truth, Text, Variable as VariableNode, Element, Length, Unary, Binary, Constructor, Call, LibraryCall}
 use Rattle.xi.specs.declared.node.Node.the-variants.{Declare, DeclareValue, DeclareCall, Assign, AssignElement, If, IfElse, While, Return, CallStatement, Target, Discard, Block}
@@ -19,17 +14,16 @@ use Rattle.xi.specs.declared.node.Operator.{Operator}
 use Rattle.xi.specs.declared.node.Operator.the-variants.{Add, Subtract, Multiply, Divide, Remainder, Less, LessEqual, Greater, GreaterEqual, Equal, NotEqual, And, Or}
 use Rattle.xi.specs.declared.node.LibraryFunction.{LibraryFunction}
 use Rattle.xi.specs.declared.node.LibraryFunction.the-variants.{Print, Println, Readln, Getchar, Eof, ParseInt, UnparseInt, Ratio}
-use Rattle.xi.specs.declared.program.Function.{Function}
 use Rattle.xi.specs.declared.stop.Stop.{Stop}
 use Rattle.xi.specs.declared.stop.Stop.the-variants.{ZeroDivisor, Index, Unset, NegativeLength, CellsTooFew, TooDeep, RoomTooSmall, NoCharacter}
-use Rattle.xi.specs.Program.{Program, itemsOf}
-use Rattle.xi.specs.Tree.{nodeAt, entriesOf, Part, firstParts, all, statementPlace}
-use Rattle.xi.specs.Typing.{Binding, pushed, orElse, functionNamed, parametersOf, targetBindings}
-use Rattle.semantics.specs.State.{Value, int, bool, array, Slot, Variable, variable, Store, Task, begin, finish, leave, back, Core, core, Host, Limits}
-use Rattle.semantics.specs.State.{Effect, quiet, wrote, took, Move, go, finished, stop, stuck, find, put, keep, findGlobal, putGlobal, elementType, grown, withCell, withGlobals, withDepth, elementsAt}
-use Rattle.semantics.specs.Numbers.{nearest, literal, row, rowTakes, isCharacter, cellsFor, elementOf, nested}
-use Rattle.semantics.specs.Rules.{takeAny, takeInt, takeBool, takeArray, takeAddend, takeValues, known, readSlot, readLength, elements, within, elementCell, fits, answer, makeArray, begins, alone, bound, received, receivedAll, unwind}
-use Rattle.semantics.specs.Rules.{lengths, declares, characters, integers, writes, slotsOf, assigns, same, twoInts, isZero, unlessZero, nextCharacter, nextTakes, atEnd, parsed, operates, serves, finishes}
+use Rattle.xi.specs.Program.{Program}
+use Rattle.xi.specs.Tree.{entriesOf, all, statementPlace}
+use Rattle.xi.specs.Typing.{Binding, orElse, functionNamed, parametersOf}
+use Rattle.semantics.specs.State.{Value, int, bool, array, Slot, Variable, Store, Task, begin, finish, leave, core, Host, Limits}
+use Rattle.semantics.specs.State.{quiet, wrote, took, Move, go, stop, stuck, find, findGlobal, elementType, grown, withCell, elementsAt}
+use Rattle.semantics.specs.Numbers.{literal, numeral, isCharacter, cellsFor}
+use Rattle.semantics.specs.Rules.{takeAny, takeInt, takeBool, takeArray, takeAddend, takeValues, known, readSlot, readLength, elements, within, elementCell, fits, makeArray, begins, alone, bound, receivedAll, unwind}
+use Rattle.semantics.specs.Rules.{lengths, declares, characters, integers, writes, slotsOf, assigns, same, twoInts, isZero, unlessZero, parsed, operates, serves, finishes}
 
 module _ (Q : Move → Type 0) (bad : Q stuck) (n : ℕ) (no : (s : Stop) → Q (stop s n)) where
   pub any-all : (O : List Value) (f : Value → List Value → Move) → ((v : Value) (O : List Value) → Q (f v O)) → Q (takeAny O f)
@@ -201,7 +195,7 @@ module _ (Q : Move → Type 0) (bad : Q stuck) (n : ℕ) (no : (s : Stop) → Q 
     serves-all Getchar E O s = taking E _ _ s
     serves-all Eof E O s = on E _ s
     serves-all ParseInt E O s = array-all O _ (λ p O. elements-all s p _ (λ cs. integers-all cs _ (λ zs. on E (parsed (literal zs) O) s)))
-    serves-all UnparseInt E O s = int-all O _ (λ z O. make-all 0 (slotsOf (signed z)) E O s)
+    serves-all UnparseInt E O s = int-all O _ (λ z O. make-all 0 (slotsOf (numeral z)) E O s)
     serves-all Ratio E O s = two-all O _ (λ a b O. zero-all b _ (on E _ s))
 
     block-all : (es : List ℕ) (E : List Variable) (O : List Value) (s : Store) → Q (go (core E O (begins (all statementPlace es) (leave (length E) ∷ k)) s) quiet)

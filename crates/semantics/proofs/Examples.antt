@@ -1,11 +1,7 @@
 -- The examples, by computation.
-use mathlib.Core.Path.{_≡_, refl}
-use mathlib.Core.List.{List, [], _∷_}
-use mathlib.Core.Option.{none, some}
-use Prim.Native.Nat.{ℕ}
-use Rattle.semantics.specs.State.{Slot}
-use Rattle.semantics.specs.Runs.{Setup, after}
-use Rattle.semantics.specs.Starred.{Finishes, StarredExamples}
+use mathlib.Core.Path.{refl}
+use Rattle.semantics.specs.Runs.{after}
+use Rattle.semantics.specs.Starred.{StarredExamples, FurtherExamples}
 
 pub starred-examples : StarredExamples
 unfolding after
@@ -21,4 +17,16 @@ starred-examples = record {
   minus-half = record { outcome = refl; nodes = refl; globals-are = refl; cells-are = refl; handed = refl };
   one-row = record { outcome = refl; nodes = refl; globals-are = refl; cells-are = refl; handed = refl };
   three-rows = record { outcome = refl; nodes = refl; globals-are = refl; cells-are = refl; handed = refl };
+}
+
+pub further-examples : FurtherExamples
+unfolding after
+further-examples = record {
+  loop = record { outcome = refl; nodes = refl; globals-are = refl; cells-are = refl; handed = refl };
+  arithmetic = record { outcome = refl; nodes = refl; globals-are = refl; cells-are = refl; handed = refl };
+  prints = record { outcome = refl; nodes = refl; text-is = refl };
+  parses-text = record { outcome = refl; nodes = refl; globals-are = refl; cells-are = refl; handed = refl };
+  early = record { outcome = refl; nodes = refl; globals-are = refl; cells-are = refl; handed = refl };
+  index = record { outcome = refl; nodes = refl; text-is = refl };
+  deep = record { outcome = refl; nodes = refl; text-is = refl };
 }

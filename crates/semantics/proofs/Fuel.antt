@@ -7,10 +7,10 @@ use Prim.Native.Nat.{ℕ, zero, suc, _+_}
 use native.Mathlib.Nat.{zero-add, suc-add}
 use lib.ListN.{take, drop, take-append-drop}
 use Rattle.xi.specs.Program.{Program}
-use Rattle.semantics.specs.State.{Host, Limits, Core, Effect, quiet, wrote, took, Move, go, finished, stop, stuck}
+use Rattle.semantics.specs.State.{Host, Limits, Effect, quiet, wrote, took, Move, go, finished, stop, stuck}
 use Rattle.semantics.specs.Rules.{step}
 use Rattle.semantics.specs.Runs.{Config, Outcome, acted, moved, advance, free, settle, paid, turn, run, after, start, Setup, limits, waits, unless, unlessEnded}
-use Rattle.semantics.specs.Laws.{GrantsAdd, EndedStays, Beginning, WritesOn, HandsOn, CharactersKept}
+use Rattle.semantics.specs.Laws.{GrantsAdd, EndedStays, WritesOn, HandsOn, CharactersKept}
 
 pub cut : (P : Program) (L : Limits) (g : Config) (m n : ℕ) → run P L (m + n) g ≡ run P L n (run P L m g)
 unfolding run

@@ -2,11 +2,11 @@
 use mathlib.Core.Path.{_≡_, refl, sym, ap, _∙_, subst}
 use mathlib.Core.Bool.{Bool, true, false, true≢false}
 use mathlib.Core.Option.{Option, none, some, Option·none-ne-some}
-use Prim.Native.Nat.{ℕ, zero, suc, _+_}
+use Prim.Native.Nat.{ℕ, zero, suc}
 use Rattle.xi.specs.Program.{Program}
 use Rattle.semantics.specs.State.{Limits}
-use Rattle.semantics.specs.Runs.{Config, Outcome, advance, paid, waits, free, settle, turn, run, after, start, limits, unless, unlessEnded}
-use Rattle.semantics.specs.Laws.{Rests, RestsAt}
+use Rattle.semantics.specs.Runs.{Config, Outcome, advance, paid, waits, free, settle, turn, run, after, start, limits, unlessEnded}
+use Rattle.semantics.specs.Laws.{RestsAt}
 use Rattle.semantics.specs.Grants.{Grant, hasEnded, unpaid, costsNothing, costsOne, AfterIsGranted, FurtherIsGranted, GrantLeadsToOne}
 use Rattle.semantics.proofs.Fuel.{stays, grants-add}
 use Rattle.semantics.proofs.Rest.{pick-ended, pick, turn-rests, settle-rests, comes-to-rest}

@@ -1,4 +1,5 @@
 pub mod Lists
+pub mod Decimal
 pub mod Every
 pub mod Fuel
 pub mod Rest
@@ -11,6 +12,8 @@ pub mod Takers
 pub mod Begun
 pub mod Kept
 pub mod Never
+pub mod Small
 pub mod Arithmetic
 pub mod Texts
 pub mod Examples
+pub mod Obeyed

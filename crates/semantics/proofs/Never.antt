@@ -1,36 +1,35 @@
 -- Whole runs: never stuck, always typed.
-use mathlib.Core.Path.{_≡_, refl, sym, ap, _∙_, subst}
-use mathlib.Core.List.{List, [], _∷_, _++_, map}
+use mathlib.Core.Path.{_≡_, refl, sym, _∙_, subst}
+use mathlib.Core.List.{List, [], _∷_}
 use mathlib.Core.Option.{Option, none, some, Option·none-ne-some, Option·some-injective}
-use mathlib.Core.Bool.{Bool, true, false, cond}
+use mathlib.Core.Bool.{true, false, cond}
 use mathlib.Core.Logic.{_⊎_, inl, inr}
-use Prim.Native.Nat.{ℕ, zero, suc, _+_, _<_, _≤_}
+use Prim.Native.Nat.{ℕ, zero, suc, _<_, _≤_}
 use native.Mathlib.Nat.{not-suc-le-zero}
 use native.Mathlib.Omega.{arith}
-use lib.IntN.{ℤ, pos}
+use lib.IntN.{ℤ}
 use lib.Chars.{codes}
-use lib.ListN.{length, getElem?, getD, drop}
-use mir.Syntax.{w64}
-use mir.Val.{SFits}
+use lib.ListN.{length, getElem?, getD}
 use Rattle.std.specs.shelf.Text.{sameBytes}
 use Rattle.xi.specs.declared.program.GlobalVariable.{GlobalVariable}
 use Rattle.xi.specs.declared.program.Function.{Function}
 use Rattle.xi.specs.Program.{Program}
-use Rattle.xi.specs.Tree.{nodeAt, Each, BodyStands}
-use Rattle.xi.specs.Typing.{Binding, Scope, pushed, Tables, parametersOf, resultsOf}
-use Rattle.xi.specs.Obeys.{mainIn, mainOf, FunctionObeys, MainObeys, Obeys}
-use Rattle.semantics.specs.State.{Value, int, bool, array, Slot, Variable, variable, Made, Store, Task, begin, finish, leave, back, Core, core, Host, Limits, Effect, quiet, wrote, took, Move, go, finished, stop, stuck, elementType}
-use Rattle.semantics.specs.Rules.{step}
-use Rattle.semantics.specs.Runs.{Config, Outcome, done, stopped, broken, moved, advance, free, settle, paid, turn, run, after, start, Setup, limits, waits, unlessEnded, firstStore, arguments, opening}
+use Rattle.xi.specs.Tree.{Each, BodyStands}
+use Rattle.xi.specs.Typing.{Binding, Scope, pushed, Tables, parametersOf}
+use Rattle.std.specs.declared.option.Option.{Option as RustOption}
+use Rattle.std.specs.declared.option.Option.the-variants.{None, Some}
+use Rattle.xi.specs.Obeys.{FirstFits, mainIn, mainOf, FunctionObeys, MainObeys, Obeys}
+use Rattle.semantics.specs.State.{Value, int, bool, array, Slot, Variable, Store, Task, Core, core, Limits, quiet, wrote, took, Move, elementType}
+use Rattle.semantics.specs.Runs.{givenFirst, givenFirsts, Config, Outcome, done, stopped, broken, moved, advance, free, settle, paid, turn, run, after, start, Setup, limits, waits, unlessEnded, firstStore, arguments, opening}
 use Rattle.semantics.specs.Laws.{SpentOf}
-use Rattle.semantics.specs.Sound.{Use, header, element, ArrayAt, Has, hasInt, hasBool, hasArray, Holds, unset, holds, Cell, isHeader, isElement, Cells, noCells, moreCells, Values, noValues, Variables, noVariables, moreVariables, Globals, noGlobals, moreGlobals}
-use Rattle.semantics.specs.Sound.{begun, Point, nowhere, live, Todo, noTasks, toBegin, toFinish, toLeave, toBack, passEnd, passBegin, passFinish, passLeave, passBack, Owned, Heap, Sound, Good, goesOn, isDone, halts}
-use Rattle.semantics.specs.Soundness.{OfType, anInt, aBool, anArray, SlotOf, VariablesOf, noVariablesOf, moreVariablesOf, GlobalsOf, noGlobalsOf, moreGlobalsOf, IsElement, IsLength, CellsOf, NextIn, CallersOf, WellTyped, StandsAs, FirstOf, FirstsOf, Characters, Fits, NotStuck, NeverStuck}
+use Rattle.semantics.specs.Sound.{Use, header, element, ArrayAt, Has, hasInt, hasBool, hasArray, Holds, unset, holds, Cell, isHeader, isElement, noCells, moreCells, noValues, Variables, noVariables, moreVariables, Globals, noGlobals, moreGlobals}
+use Rattle.semantics.specs.Sound.{Point, live, Todo, noTasks, toBegin, toFinish, toLeave, toBack, passEnd, passBegin, passFinish, passLeave, passBack, Owned, Heap, Sound, Good, goesOn, isDone, halts}
+use Rattle.semantics.specs.Soundness.{OfType, anInt, aBool, anArray, SlotOf, VariablesOf, noVariablesOf, moreVariablesOf, GlobalsOf, noGlobalsOf, moreGlobalsOf, IsElement, IsLength, CellsOf, NextIn, CallersOf, WellTyped, StandsAs, FirstOf, FirstsOf, Characters, Fits, GivenFirstsFit, NeverStuck, AfterIsSound}
 use Rattle.semantics.proofs.Fuel.{unless-all}
 use Rattle.semantics.proofs.Spent.{spends-granted}
 use Rattle.semantics.proofs.Lists.{at-is, at-less, each-drop}
 use Rattle.semantics.proofs.Cells.{cell-at, header-at, cells-length}
-use Rattle.semantics.proofs.Begun.{begin-on}
+use Rattle.semantics.proofs.Begun.{few-declared, main-on}
 use Rattle.semantics.proofs.Kept.{step-keeps-sound}
 
 abbrev Unbroken : Option Outcome → Type 0
@@ -40,42 +39,45 @@ Unbroken (some (stopped s n)) = Unit {0}
 Unbroken (some broken) = ⊥
 
 -- a run that is sound, and has not ended badly
-record Fine (P : Program) (T : Tables) (L : Limits) (g : Config) : Type 0 where
+record Fine (P : Program) (T : Tables) (V : ℕ → ℕ) (L : Limits) (g : Config) : Type 0 where
   unbroken : Unbroken (g .outcome)
-  sound : Sound P T L (g .core)
+  sound : Sound P T V L (g .core)
   text : Characters (g .host .left)
 
 module _ (P : Program) (ok : Obeys P) (L : Limits) (small : L .cells ≤ 1048576) where
   abbrev T : Tables
   T = ok .tables
 
-  moved-fine : {m : Move} (g : Config) → Good P T L m → Fine P T L g → Fine P T L (moved m g)
+  abbrev V : ℕ → ℕ
+  V = ok .level
+
+  moved-fine : {m : Move} (g : Config) → Good P T V L m → Fine P T V L g → Fine P T V L (moved m g)
   moved-fine g (goesOn {e = quiet} s) F = record { unbroken = tt; sound = s; text = F .text }
   moved-fine g (goesOn {e = wrote t} s) F = record { unbroken = tt; sound = s; text = F .text }
   moved-fine g (goesOn {e = took n} s) F = record { unbroken = tt; sound = s; text = each-drop (λ (c : ℕ). c < 1114112) n (g .host .left) (F .text) }
   moved-fine g isDone F = record { unbroken = tt; sound = F .sound; text = F .text }
   moved-fine g halts F = record { unbroken = tt; sound = F .sound; text = F .text }
 
-  advance-fine : (g : Config) → Fine P T L g → Fine P T L (advance P L g)
+  advance-fine : (g : Config) → Fine P T V L g → Fine P T V L (advance P L g)
   unfolding advance
   advance-fine g F = moved-fine g (step-keeps-sound P ok L (g .host) (g .core) small (F .text) (F .sound)) F
 
-  ended-fine : (x : Option Outcome) (g : Config) (f : Config → Config) → Fine P T L g → Fine P T L (f g) → Fine P T L (unlessEnded x g f)
+  ended-fine : (x : Option Outcome) (g : Config) (f : Config → Config) → Fine P T V L g → Fine P T V L (f g) → Fine P T V L (unlessEnded x g f)
   ended-fine none g f a b = b
   ended-fine (some o) g f a b = a
 
-  free-fine : (m : ℕ) (g : Config) → Fine P T L g → Fine P T L (free P L m g)
+  free-fine : (m : ℕ) (g : Config) → Fine P T V L g → Fine P T V L (free P L m g)
   unfolding free
   free-fine zero g F = F
-  free-fine (suc m) g F = ended-fine (g .outcome) g _ F (unless-all (Fine P T L) (waits (g .core .tasks)) g _ F (free-fine m (advance P L g) (advance-fine g F)))
+  free-fine (suc m) g F = ended-fine (g .outcome) g _ F (unless-all (Fine P T V L) (waits (g .core .tasks)) g _ F (free-fine m (advance P L g) (advance-fine g F)))
 
-  turn-fine : (g : Config) → Fine P T L g → Fine P T L (turn P L g)
+  turn-fine : (g : Config) → Fine P T V L g → Fine P T V L (turn P L g)
   unfolding turn settle
   turn-fine g F =
       ended-fine (g .outcome) g _ F
       (let A = advance-fine g F in free-fine _ (paid P L (advance P L g)) (record { unbroken = A .unbroken; sound = A .sound; text = A .text }))
 
-  run-fine : (n : ℕ) (g : Config) → Fine P T L g → Fine P T L (run P L n g)
+  run-fine : (n : ℕ) (g : Config) → Fine P T V L g → Fine P T V L (run P L n g)
   unfolding run
   run-fine zero g F = F
   run-fine (suc n) g F = run-fine n (turn P L g) (turn-fine g F)
@@ -114,7 +116,7 @@ first-owned (suc q) t e = absurd (Option·none-ne-some _ e)
 first-heap : (cs : List Slot) → Heap K₀ (firstStore cs)
 first-heap cs = record { cells = moreCells isHeader noCells; made = first-made cs; owned = first-owned }
 
-start-sound : (S : Setup) (F : Fits S) → Sound (S .program) (F .obeys .tables) (limits S) (start S .core)
+start-sound : (S : Setup) (F : Fits S) → Sound (S .program) (F .obeys .tables) (F .obeys .level) (limits S) (start S .core)
 start-sound S F = at-main (mainOf P) (sym (M .found))
   where
     P : Program
@@ -141,19 +143,22 @@ start-sound S F = at-main (mainOf P) (sym (M .found))
     variables : Variables K₀ (pushed (b₀ ∷ []) []) (arguments (b₀ ∷ []))
     variables = moreVariables {b = b₀} (holds (hasArray empty)) noVariables
 
-    at-main : (x : Option Function) → some G ≡ x → Sound P (F .obeys .tables) (limits S) (opening P (S .first) x)
-    at-main x e = subst (λ (x : Option Function). Sound P (F .obeys .tables) (limits S) (opening P (S .first) x)) e
+    at-main : (x : Option Function) → some G ≡ x → Sound P (F .obeys .tables) (F .obeys .level) (limits S) (opening P (S .first) x)
+    at-main x e = subst (λ (x : Option Function). Sound P (F .obeys .tables) (F .obeys .level) (limits S) (opening P (S .first) x)) e
         (record {
           uses = K₀;
           owed = [];
+          level = 0;
           scope = pushed (parametersOf P G) [];
           types = [];
           variables = subst (λ (bs : List Binding). Variables K₀ (pushed bs []) (arguments bs)) (sym (M .parameters)) variables;
           operands = noValues;
-          tasks = begin-on P (F .obeys .tables) (F .obeys .level) K₀ (G .body) (B .scope) (B .owed ∙ M .results) (ap begun (D .block)) noTasks;
+          tasks = main-on P (F .obeys .tables) (F .obeys .level) (F .obeys .names) K₀ (G .body) (B .scope) (B .owed ∙ M .results) (few-declared P (parametersOf P G) [] (B .parameters) (omega arith)) (omega (arith, D .top)) (D .block);
           heap = first-heap (S .first);
           globals = firsts-hold K₀ (P .globals) (S .first) (F .first);
           fits = F .some-cells;
+          calls = refl;
+          deep = F .some-depth;
         })
 
 -- what soundness says in the words of types
@@ -176,17 +181,17 @@ module _ {K : List Use} {s : Store} (h : Heap K s) where
   globals-of noGlobals = noGlobalsOf
   globals-of (moreGlobals {c = c} w r) = moreGlobalsOf (slot-of c w) (globals-of r)
 
-  callers-of : {P : Program} {T : Tables} {r : List ℕ} {a : Point} {k : List Task} → Todo P T K r a k → CallersOf (s .made) k
-  callers-of noTasks = tt
+  callers-of : {P : Program} {T : Tables} {V : ℕ → ℕ} {r : List ℕ} {l : ℕ} {a : Point} {k : List Task} → Todo P T V K r l a k → CallersOf P T (s .made) k
+  callers-of (noTasks f) = tt
   callers-of (toBegin b c d) = callers-of d
   callers-of (toFinish b c d) = callers-of d
-  callers-of (toLeave d) = callers-of d
-  callers-of (toBack e o d) = ((_, variables-of e), callers-of d)
+  callers-of (toLeave f g d) = callers-of d
+  callers-of (toBack n f g i c e o d) = (record { place = n; call = c; variables = variables-of e }, callers-of d)
   callers-of passEnd = tt
   callers-of (passBegin d) = callers-of d
-  callers-of (passFinish d) = callers-of d
-  callers-of (passLeave d) = callers-of d
-  callers-of (passBack e o d) = ((_, variables-of e), callers-of d)
+  callers-of (passFinish g d) = callers-of d
+  callers-of (passLeave g d) = callers-of d
+  callers-of (passBack n f g c e o d) = (record { place = n; call = c; variables = variables-of e }, callers-of d)
 
   cell-of : (q : ℕ) (v : Value) (u : Use) → getElem? K q ≡ some u → (c : Slot) → Cell K u c → c ≡ some v → IsLength s q v ⊎ IsElement s q v
   cell-of q v (header n t) e c isHeader w = inl (record { type = t; size = n; made = h .made q n t e; is = sym (Option·some-injective _ _ w) })
@@ -214,14 +219,14 @@ module _ {K : List Use} {s : Store} (h : Heap K s) where
       let c = cell-at q (h .cells) (u .1) in
       cell-of q v (u .0) (u .1) (c .0) (c .2) (Option·some-injective _ _ (sym (c .1) ∙ e))
 
-next-in : {P : Program} {T : Tables} {K : List Use} {r : List ℕ} {Γ : Scope} {ts : List ℕ} {k : List Task} → Todo P T K r (live Γ ts) k → NextIn T Γ k
-next-in noTasks = tt
+next-in : {P : Program} {T : Tables} {V : ℕ → ℕ} {K : List Use} {r : List ℕ} {l : ℕ} {Γ : Scope} {ts : List ℕ} {k : List Task} → Todo P T V K r l (live Γ ts) k → NextIn T Γ k
+next-in (noTasks f) = tt
 next-in (toBegin b c d) = refl
 next-in (toFinish b c d) = refl
-next-in (toLeave d) = tt
-next-in (toBack e o d) = tt
+next-in (toLeave f g d) = tt
+next-in (toBack n f g i c e o d) = tt
 
-well-typed : {P : Program} {T : Tables} {L : Limits} {c : Core} → Sound P T L c → WellTyped P T c
+well-typed : {P : Program} {T : Tables} {V : ℕ → ℕ} {L : Limits} {c : Core} → Sound P T V L c → WellTyped P T c
 well-typed S = record { scope = S .scope; here = next-in (S .tasks); variables = variables-of (S .heap) (S .variables); callers = callers-of (S .heap) (S .tasks); globals = globals-of (S .heap) (S .globals); cells = cells-of (S .heap) }
 
 stands-as : (n : ℕ) (g : Config) (x : Option Outcome) → g .outcome ≡ x → Unbroken x → SpentOf n g → StandsAs n x (g .spent)
@@ -230,8 +235,35 @@ stands-as n g (some done) e u s = tt
 stands-as n g (some (stopped t m)) e u s = tt
 stands-as n g (some broken) e u s = absurd u
 
-pub never-stuck : NeverStuck
+after-fine : (S : Setup) (F : Fits S) (n : ℕ) → Fine (S .program) (F .obeys .tables) (F .obeys .level) (limits S) (after S n)
 unfolding after settle
+after-fine S F n = run-fine (S .program) (F .obeys) (limits S) (F .few-cells) n _ (free-fine (S .program) (F .obeys) (limits S) (F .few-cells) _ (start S) (record { unbroken = tt; sound = start-sound S F; text = F .left }))
+
+pub after-sound : AfterIsSound
+after-sound S F n = after-fine S F n .sound
+
+pub never-stuck : NeverStuck
 never-stuck S F n =
-    let A = run-fine (S .program) (F .obeys) (limits S) (F .few-cells) n _ (free-fine (S .program) (F .obeys) (limits S) (F .few-cells) _ (start S) (record { unbroken = tt; sound = start-sound S F; text = F .left })) in
-    record { stands = stands-as n (after S n) (after S n .outcome) refl (A .unbroken) (spends-granted S n); typed = well-typed (A .sound); cells = A .sound .fits }
+    let A = after-fine S F n in
+    record {
+      stands = stands-as n (after S n) (after S n .outcome) refl (A .unbroken) (spends-granted S n);
+      typed = well-typed (A .sound);
+      cells = A .sound .fits;
+      calls = A .sound .calls;
+      deep = A .sound .deep;
+    }
+
+-- first values that the sheet gives
+
+first-fits : (g : GlobalVariable) (t : ℕ) (f : RustOption ℤ) → g .ty .number ≡ t → FirstFits t f → FirstOf g (givenFirst t f)
+first-fits g t None e h = tt
+first-fits g zero (Some z) e h = (e, h)
+first-fits g (suc zero) (Some z) e h = e
+first-fits g (suc (suc t)) (Some z) e h = tt
+
+firsts-fit : (gs : List GlobalVariable) → Each (λ (g : GlobalVariable). (g .ty .number ≤ 9) × FirstFits (g .ty .number) (g .first)) gs → FirstsOf gs (givenFirsts gs)
+firsts-fit [] h = tt
+firsts-fit (g ∷ gs) h = (first-fits g (g .ty .number) (g .first) refl (h .0 .1), firsts-fit gs (h .1))
+
+pub given-firsts-fit : GivenFirstsFit
+given-firsts-fit P ok = firsts-fit (P .globals) (ok .ranges .globals)

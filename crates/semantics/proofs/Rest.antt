@@ -1,13 +1,13 @@
 -- A grant ends where a node would begin unpaid, or where the run has ended.
-use mathlib.Core.Path.{_≡_, refl, sym, ap, _∙_, subst}
-use mathlib.Core.List.{List, [], _∷_, _++_}
+use mathlib.Core.Path.{_≡_, refl, sym, subst}
+use mathlib.Core.List.{List, [], _∷_}
 use mathlib.Core.Option.{Option, none, some, Option·none-ne-some}
 use mathlib.Core.Bool.{Bool, true, false, true≢false}
-use Prim.Native.Nat.{ℕ, zero, suc, _+_, _-_, _<_, _≤_}
+use Prim.Native.Nat.{ℕ, zero, suc, _+_, _<_, _≤_}
 use native.Mathlib.Omega.{arith}
 use Rattle.xi.specs.Program.{Program}
 use Rattle.xi.specs.Tree.{nodeAt}
-use Rattle.semantics.specs.State.{Value, Variable, Store, Task, begin, finish, leave, back, Core, core, Host, Limits, Effect, quiet, Move, go, finished, stop, stuck}
+use Rattle.semantics.specs.State.{Value, Variable, Store, Task, begin, finish, leave, back, core, Host, Limits, Move, go, finished, stop, stuck}
 use Rattle.semantics.specs.Rules.{unwind, finishes, does, next, step}
 use Rattle.semantics.specs.Runs.{Config, Outcome, moved, waits, weight, unlessEnded, unless, advance, free, settle, paid, turn, run, after, start, limits}
 use Rattle.semantics.specs.Laws.{RestsAt, Rests, ComesToRest}

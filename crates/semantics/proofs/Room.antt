@@ -1,15 +1,14 @@
 -- No step writes more than there is room for.
-use mathlib.Core.Path.{_≡_, refl, sym, ap, _∙_}
-use mathlib.Core.List.{List, [], _∷_, _++_}
-use mathlib.Core.Option.{Option, none, some}
+use mathlib.Core.Path.{_≡_, refl, ap, _∙_}
+use mathlib.Core.List.{List, [], _∷_}
 use Prim.Native.Nat.{ℕ, zero, suc, _+_, _-_, _≤_}
 use native.Mathlib.Omega.{arith}
 use lib.ListN.{length, length-append}
 use Rattle.xi.specs.Program.{Program}
 use Rattle.xi.specs.Tree.{nodeAt}
-use Rattle.semantics.specs.State.{Value, Variable, Store, Task, begin, finish, leave, back, Core, Host, Limits, Effect, quiet, wrote, took, Move, go, finished, stop, stuck}
-use Rattle.semantics.specs.Rules.{unwind, finishes, does, next, step}
-use Rattle.semantics.specs.Runs.{Config, acted, moved, advance, free, settle, paid, turn, run, after, start, Setup, limits, waits}
+use Rattle.semantics.specs.State.{Value, Variable, Store, Task, begin, finish, leave, back, Host, Limits, Effect, quiet, wrote, took, Move, go, finished, stop, stuck}
+use Rattle.semantics.specs.Rules.{unwind, does, next, step}
+use Rattle.semantics.specs.Runs.{Config, acted, moved, advance, free, settle, paid, turn, run, after, start, limits, waits}
 use Rattle.semantics.specs.Laws.{RoomCounted}
 use Rattle.semantics.proofs.Every.{finishes-all}
 use Rattle.semantics.proofs.Fuel.{ended-all, unless-all}

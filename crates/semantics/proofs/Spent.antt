@@ -1,14 +1,13 @@
 -- What is spent of what was granted.
-use mathlib.Core.Path.{_≡_, refl, sym, ap, _∙_, subst}
+use mathlib.Core.Path.{_≡_, refl, sym, ap, _∙_}
 use mathlib.Core.Option.{Option, none, some, Option·none-ne-some}
-use mathlib.Core.Bool.{Bool, true, false}
 use Prim.Native.Nat.{ℕ, zero, suc, _+_, _≤_}
 use native.Mathlib.Omega.{arith}
 use Rattle.xi.specs.Program.{Program}
 use Rattle.semantics.specs.State.{Limits, Move, go, finished, stop, stuck}
 use Rattle.semantics.specs.Rules.{step}
 use Rattle.semantics.specs.Runs.{Config, Outcome, moved, advance, free, settle, paid, turn, run, after, start, limits, waits, unlessEnded}
-use Rattle.semantics.specs.Laws.{SpentOf, SpendsGranted}
+use Rattle.semantics.specs.Laws.{SpendsGranted}
 use Rattle.semantics.proofs.Fuel.{ended-all, unless-all, stays}
 
 moved-spent : (m : Move) (g : Config) → moved m g .spent ≡ g .spent

@@ -1,15 +1,14 @@
 -- What the parts of the rules ask and give, under the invariant.
 use mathlib.Core.Path.{_≡_, refl, sym, ap, _∙_, subst}
-use mathlib.Core.List.{List, [], _∷_, _++_, map}
-use mathlib.Core.Option.{Option, none, some, Option·none-ne-some, Option·some-injective}
-use mathlib.Core.Bool.{Bool, true, false, cond, true≢false, false≢true}
+use mathlib.Core.List.{List, [], _∷_, _++_}
+use mathlib.Core.Option.{Option, none, some, Option·some-injective}
+use mathlib.Core.Bool.{Bool, true, false, cond}
 use Prim.Native.Nat.{ℕ, zero, suc, _+_, _-_, _^_, _<_, _≤_}
-use native.Mathlib.Nat.{not-suc-le-zero, le-of-suc-le-suc}
 use native.Mathlib.Omega.{arith}
 use lib.IntN.{ℤ, pos, negsuc, negℤ}
-use lib.Signed.{mag, remZ, mag-rem}
+use lib.Signed.{remZ, mag-rem}
 use lib.Dec.{leb, ltb, eqb, T, leb→le, ltb→lt}
-use lib.ListN.{length, getElem?, getD, replicate, take, drop}
+use lib.ListN.{length, getElem?, replicate}
 use mir.Syntax.{w64}
 use mir.Val.{SFits}
 use Rattle.std.specs.Text.{Ascii}
@@ -17,25 +16,35 @@ use Rattle.std.specs.Written.{signed}
 use Rattle.std.proofs.shelf.Decimals.{ascii-signed}
 use Rattle.xi.specs.Program.{Program}
 use Rattle.xi.specs.Tree.{nodeAt, all, expressionPlace, Each}
-use Rattle.xi.specs.Typing.{Binding, Scope, pushed, Tables, gives, GiveEach, typeIn, globalType, variableType, orElse, typesOf, targetBindings, targetsBindings, BindingsHave, TargetsFit}
-use Rattle.semantics.specs.State.{Value, int, bool, array, Slot, Variable, variable, Made, Store, Task, begin, finish, leave, back, Core, core, Host, Limits}
-use Rattle.semantics.specs.State.{Effect, quiet, Move, go, finished, stop, stuck, find, findGlobal, elementType, grown, withCell, withDepth, elementsAt}
-use Rattle.semantics.specs.Numbers.{ranged, natural, literal, equalℤ, row, isCharacter}
+use Rattle.xi.specs.Typing.{Binding, Scope, pushed, Tables, GiveEach, typeIn, globalType, variableType, orElse, typesOf, targetBindings, targetsBindings, BindingsHave, TargetsFit}
+use Rattle.semantics.specs.State.{Value, int, array, Slot, Variable, Store, Task, core, Limits}
+use Rattle.semantics.specs.State.{Effect, quiet, Move, go, find, findGlobal, withDepth, elementsAt}
+use Rattle.semantics.specs.Numbers.{ranged, natural, literal, numeral, equalℤ, row, isCharacter}
 use Rattle.semantics.specs.Rules.{takeAny, takeInt, takeBool, takeArray, takeValues, known, readSlot, readLength, elements, within, elementCell, fits, makeArray, bound, received, receivedAll, unwind, lengths, characters, integers, slotsOf, assigns, same, twoInts, isZero, unlessZero, nextCharacter, parsed}
-use Rattle.semantics.specs.Sound.{Use, header, element, ArrayAt, Has, hasInt, hasBool, hasArray, Holds, unset, holds, Values, noValues, moreValues, Variables, noVariables, moreVariables, Globals}
-use Rattle.semantics.specs.Sound.{Point, nowhere, live, worked, Todo, noTasks, toBegin, toFinish, toLeave, toBack, passEnd, passBegin, passFinish, passLeave, passBack, Heap, Sound, Good, goesOn, isDone, halts}
+use Rattle.semantics.specs.Sound.{Use, element, ArrayAt, Has, hasInt, hasBool, hasArray, Holds, unset, holds, Values, noValues, moreValues, Variables, moreVariables, Globals}
+use Rattle.semantics.specs.Sound.{Point, nowhere, live, worked, Todo, noTasks, toBegin, toFinish, toLeave, toBack, passEnd, passBegin, passFinish, passLeave, passBack, Heap, callers, Good, goesOn, isDone, halts}
 use Rattle.semantics.specs.Soundness.{Characters}
+use Rattle.semantics.proofs.Decimal.{numeral-is-written}
 use Rattle.semantics.proofs.Lists.{takes-pushed, pushed-append, at-less, each-map}
-use Rattle.semantics.proofs.Cells.{array-more, has-more, values-more, variables-more, globals-more, todo-more, find-typed, find-none, global-typed, element-at, header-at, cells-length, elements-hold, Grew, grown-grew}
+use Rattle.semantics.proofs.Cells.{values-more, variables-more, globals-more, todo-more, find-typed, find-none, global-typed, header-at, cells-length, elements-hold, Grew, grown-grew}
 
 -- the store of a sound run
-pub record Kept (P : Program) (L : Limits) (K : List Use) (s : Store) : Type 0 where
+pub record Kept (P : Program) (L : Limits) (K : List Use) (m : ℕ) (s : Store) : Type 0 where
   pub heap : Heap K s
   pub globals : Globals K (P .globals) (s .globals)
   pub fits : length (s .cells) ≤ L .cells
+  pub calls : s .depth ≡ suc m
+  pub deep : s .depth ≤ L .depth
 
-pub kept-depth : {P : Program} {L : Limits} {K : List Use} {s : Store} (n : ℕ) → Kept P L K s → Kept P L K (withDepth s n)
-kept-depth n s = record { heap = record { cells = s .heap .cells; made = s .heap .made; owned = s .heap .owned }; globals = s .globals; fits = s .fits }
+heap-depth : {K : List Use} {s : Store} (n : ℕ) → Heap K s → Heap K (withDepth s n)
+heap-depth n h = record { cells = h .cells; made = h .made; owned = h .owned }
+
+-- one call more, and one less
+pub kept-more : {P : Program} {L : Limits} {K : List Use} {m : ℕ} {s : Store} → s .depth < L .depth → Kept P L K m s → Kept P L K (suc m) (withDepth s (suc (s .depth)))
+kept-more h s = record { heap = heap-depth _ (s .heap); globals = s .globals; fits = s .fits; calls = ap suc (s .calls); deep = h }
+
+pub kept-less : {P : Program} {L : Limits} {K : List Use} {m : ℕ} {s : Store} → Kept P L K (suc m) s → Kept P L K m (withDepth s (s .depth - 1))
+kept-less s = record { heap = heap-depth _ (s .heap); globals = s .globals; fits = s .fits; calls = omega (arith, s .calls); deep = omega (arith, s .deep) }
 
 pub values-pushed : {K : List Use} {ts us : List ℕ} {vs O : List Value} → Values K ts vs → Values K us O → Values K (pushed ts us) (pushed vs O)
 values-pushed noValues o = o
@@ -60,7 +69,7 @@ split {K} {us} (t ∷ ts) o = let r = split ts o in more r (r .rests)
         at q e (moreValues {v = v} {vs = vs} h o) =
             record { front = v ∷ r .front; rest = vs; is = r .is ∙ ap (λ (l : List Value). pushed (r .front) l) (sym e); fronts = moreValues h (r .fronts); rests = o }
 
-values-length : {K : List Use} {ts : List ℕ} {vs : List Value} → Values K ts vs → length vs ≡ length ts
+pub values-length : {K : List Use} {ts : List ℕ} {vs : List Value} → Values K ts vs → length vs ≡ length ts
 values-length noValues = refl
 values-length (moreValues h r) = ap suc (values-length r)
 
@@ -129,8 +138,8 @@ ascii-characters : (l : List ℕ) → Ascii l → Characters l
 ascii-characters [] a = tt
 ascii-characters (x ∷ l) a = (omega (arith, a 0), ascii-characters l (λ i. a (suc i)))
 
-pub signed-characters : (z : ℤ) → SFits w64 z → Characters (signed z)
-signed-characters z f = ascii-characters (signed z) (ascii-signed z (f .sfits))
+pub numeral-characters : (z : ℤ) → SFits w64 z → Characters (numeral z)
+numeral-characters z f = rw (numeral-is-written z f) (ascii-characters (signed z) (ascii-signed z (f .sfits)))
 
 pub slots-typed : (K : List Use) (l : List ℕ) → Characters l → Each (Holds K 0) (slotsOf l)
 slots-typed K l c = each-map (λ (c : ℕ). c < 1114112) (Holds K 0) (λ (c : ℕ). some (int (pos c))) (λ x h. holds (hasInt (record { sfits = omega arith }))) l c
@@ -138,37 +147,37 @@ slots-typed K l c = each-map (λ (c : ℕ). c < 1114112) (Holds K 0) (λ (c : �
 -- tasks
 
 -- control that could come on may also come nowhere
-pub dies : {P : Program} {T : Tables} {K : List Use} {r : List ℕ} {a : Point} {k : List Task} → Todo P T K r a k → Todo P T K r nowhere k
-dies noTasks = passEnd
+pub dies : {P : Program} {T : Tables} {V : ℕ → ℕ} {K : List Use} {r : List ℕ} {l : ℕ} {a : Point} {k : List Task} → Todo P T V K r l a k → Todo P T V K r l nowhere k
+dies (noTasks f) = passEnd
 dies (toBegin b c k) = passBegin (dies k)
-dies (toFinish b c k) = passFinish (dies k)
-dies (toLeave k) = passLeave (dies k)
-dies (toBack e o k) = passBack e o k
+dies (toFinish b c k) = passFinish (b .deeper) (dies k)
+dies (toLeave h f k) = passLeave h (dies k)
+dies (toBack n g h f c e o k) = passBack n h f c e o k
 dies passEnd = passEnd
 dies (passBegin k) = passBegin k
-dies (passFinish k) = passFinish k
-dies (passLeave k) = passLeave k
-dies (passBack e o k) = passBack e o k
+dies (passFinish h k) = passFinish h k
+dies (passLeave h k) = passLeave h k
+dies (passBack n h f c e o k) = passBack n h f c e o k
 
-module _ (P : Program) (T : Tables) (L : Limits) where
-  pub on : {K : List Use} {r : List ℕ} {Γ : Scope} {ts : List ℕ} {E : List Variable} {O : List Value} {k : List Task} {s : Store} {e : Effect} →
-      Variables K Γ E → Values K ts O → Todo P T K r (live Γ ts) k → Kept P L K s → Good P T L (go (core E O k s) e)
-  on e o d s = goesOn (record { uses = _; owed = _; scope = _; types = _; variables = e; operands = o; tasks = d; heap = s .heap; globals = s .globals; fits = s .fits })
+module _ (P : Program) (T : Tables) (V : ℕ → ℕ) (L : Limits) where
+  pub on : {K : List Use} {r : List ℕ} {l : ℕ} {Γ : Scope} {ts : List ℕ} {E : List Variable} {O : List Value} {k : List Task} {s : Store} {e : Effect} →
+      Variables K Γ E → Values K ts O → Todo P T V K r l (live Γ ts) k → Kept P L K (callers k) s → Good P T V L (go (core E O k s) e)
+  on e o d s = goesOn (record { uses = _; owed = _; level = _; scope = _; types = _; variables = e; operands = o; tasks = d; heap = s .heap; globals = s .globals; fits = s .fits; calls = s .calls; deep = s .deep })
 
-  pub still : {K : List Use} {r : List ℕ} {Γ : Scope} {ts : List ℕ} {E : List Variable} {O : List Value} {k : List Task} {s : Store} →
-      Variables K Γ E → Values K ts O → Todo P T K r (live Γ ts) k → Kept P L K s → Good P T L (go (core E O k s) quiet)
+  pub still : {K : List Use} {r : List ℕ} {l : ℕ} {Γ : Scope} {ts : List ℕ} {E : List Variable} {O : List Value} {k : List Task} {s : Store} →
+      Variables K Γ E → Values K ts O → Todo P T V K r l (live Γ ts) k → Kept P L K (callers k) s → Good P T V L (go (core E O k s) quiet)
   still e o d s = on e o d s
 
-  pub unwind-good : {K : List Use} {r : List ℕ} {vs : List Value} {k : List Task} {s : Store} → Todo P T K r nowhere k → Values K r vs → Kept P L K s → Good P T L (unwind k vs s)
+  pub unwind-good : {K : List Use} {r : List ℕ} {l : ℕ} {vs : List Value} {k : List Task} {s : Store} → Todo P T V K r l nowhere k → Values K r vs → Kept P L K (callers k) s → Good P T V L (unwind k vs s)
   unwind-good passEnd h c = isDone
   unwind-good (passBegin k) h c = unwind-good k h c
-  unwind-good (passFinish k) h c = unwind-good k h c
-  unwind-good (passLeave k) h c = unwind-good k h c
-  unwind-good (passBack e o k) h c = on e (values-pushed h o) k (kept-depth _ c)
+  unwind-good (passFinish _ k) h c = unwind-good k h c
+  unwind-good (passLeave _ k) h c = unwind-good k h c
+  unwind-good (passBack n _ _ _ e o k) h c = on e (values-pushed h o) k (kept-less c)
 
   module _ (K : List Use) where
     abbrev G : Move → Type 0
-    G m = Good P T L m
+    G m = Good P T V L m
 
     pub cond-good : (b : Bool) (m m′ : Move) → (lib.Dec.T b → G m) → G m′ → G (cond b m m′)
     cond-good true m m′ h k = h tt
@@ -243,14 +252,14 @@ module _ (P : Program) (T : Tables) (L : Limits) where
     fits-good n s m g h = cond-good (leb (length (s .cells) + m) (L .cells)) g _ (λ b. h (leb→le (length (s .cells) + m) (L .cells) b)) halts
 
     -- a run goes on in a heap that grew
-    pub grew-good : {r : List ℕ} {Γ : Scope} {ts : List ℕ} {E : List Variable} {O : List Value} {k : List Task} {s s′ : Store} {e : Effect} {t n m : ℕ} (g : Grew K s t n m s′) →
-        Variables (K ++ g .more) Γ E → Values (K ++ g .more) ts O → Todo P T K r (live Γ ts) k → Kept P L K s → length (s .cells) + m ≤ L .cells → Good P T L (go (core E O k s′) e)
+    pub grew-good : {r : List ℕ} {l : ℕ} {Γ : Scope} {ts : List ℕ} {E : List Variable} {O : List Value} {k : List Task} {s s′ : Store} {e : Effect} {t n m : ℕ} (g : Grew K s t n m s′) →
+        Variables (K ++ g .more) Γ E → Values (K ++ g .more) ts O → Todo P T V K r l (live Γ ts) k → Kept P L K (callers k) s → length (s .cells) + m ≤ L .cells → Good P T V L (go (core E O k s′) e)
     grew-good {s = s} g e o d c f =
         on e o (todo-more K (g .more) d)
-        (record { heap = g .heap; globals = subst (λ (l : List Slot). Globals (K ++ g .more) (P .globals) l) (sym (g .globals)) (globals-more K (g .more) (c .globals)); fits = omega (arith, g .size, f) })
+        (record { heap = g .heap; globals = subst (λ (l : List Slot). Globals (K ++ g .more) (P .globals) l) (sym (g .globals)) (globals-more K (g .more) (c .globals)); fits = omega (arith, g .size, f); calls = g .depth ∙ c .calls; deep = omega (arith, g .depth, c .deep) })
 
-    pub make-good : {r : List ℕ} {Γ : Scope} {ts : List ℕ} {E : List Variable} {O : List Value} {k : List Task} {s : Store} {u : ℕ} (x : Effect) (n t : ℕ) (cs : List Slot) → u ≡ suc (suc t) →
-        Each (Holds K t) cs → Variables K Γ E → Values K ts O → Todo P T K r (live Γ (u ∷ ts)) k → Kept P L K s → G (makeArray L n t cs E O k s x)
+    pub make-good : {r : List ℕ} {l : ℕ} {Γ : Scope} {ts : List ℕ} {E : List Variable} {O : List Value} {k : List Task} {s : Store} {u : ℕ} (x : Effect) (n t : ℕ) (cs : List Slot) → u ≡ suc (suc t) →
+        Each (Holds K t) cs → Variables K Γ E → Values K ts O → Todo P T V K r l (live Γ (u ∷ ts)) k → Kept P L K (callers k) s → G (makeArray L n t cs E O k s x)
     make-good {s = s} x n t cs q w e o d c =
         fits-good n s (suc (length cs)) _ (λ f.
         let g = grown-grew s t cs (c .heap) w in
@@ -321,8 +330,8 @@ module _ (P : Program) (T : Tables) (L : Limits) where
             (a .0, ap (λ (o : Option Slot). orElse o (findGlobal (P .globals) cs x)) (a .1), subst (λ (w : ℕ). Holds K w (a .0)) (Option·some-injective _ _ q) (a .2))
 
     -- the size of an array is an `int`
-    pub size-fits : {s : Store} {p t : ℕ} (a : ArrayAt K p t) → Kept P L K s → L .cells ≤ 1048576 → SFits w64 (pos (a .size))
-    size-fits {s} {p} a c l = at (a .size) refl
+    pub size-fits : {m : ℕ} {s : Store} {p t : ℕ} (a : ArrayAt K p t) → Kept P L K m s → L .cells ≤ 1048576 → SFits w64 (pos (a .size))
+    size-fits {s = s} {p} a c l = at (a .size) refl
       where
         at : (m : ℕ) → a .size ≡ m → SFits w64 (pos (a .size))
         at zero e = record { sfits = omega (arith, e) }

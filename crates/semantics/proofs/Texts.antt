@@ -3,18 +3,24 @@ use mathlib.Core.Path.{_≡_, refl, sym, ap, _∙_, subst}
 use mathlib.Core.Bool.{Bool, true, false, cond, true≢false, false≢true}
 use mathlib.Core.List.{List, [], _∷_, _++_, map}
 use mathlib.Core.Option.{Option, none, some, Option·none-ne-some, Option·some-injective}
-use Prim.Native.Nat.{ℕ, zero, suc, _+_, _-_, _*_, _^_, _<_, _≤_}
-use native.Mathlib.Nat.{zero-add, suc-add, add-zero, zero-mul, mul-zero, suc-mul, not-suc-le-zero, le-of-suc-le-suc}
+use Prim.Native.Nat.{ℕ, zero, suc, _+_, _-_, _*_, _/_, _%_, _^_, _<_, _≤_}
+use native.Mathlib.Nat.{add-zero, zero-mul, mul-zero, suc-mul, not-suc-le-zero, le-of-suc-le-suc}
 use native.Mathlib.Omega.{arith}
 use lib.Dec.{eqb, leb, ltb}
 use lib.IntN.{ℤ, pos, negsuc, negℤ}
 use lib.ListN.{length, getElem?, set, replicate, length-append, length-set, length-replicate}
-use Rattle.std.proofs.shelf.Tests.{eqb-true, eqb-false, eq-eqb, ne-eqb, leb-true, ltb-true, le-leb, lt-ltb, cond-true, cond-false, cond-both, cases-bool}
+use mir.Syntax.{w64}
+use mir.Val.{SFits}
+use Rattle.std.specs.Written.{decimal, signed}
+use Rattle.std.proofs.shelf.Decimals.{decimal-by-steps}
+use Rattle.std.proofs.shelf.Tests.{eqb-true, eqb-false, eq-eqb, ne-eqb, leb-true, ltb-true, le-leb, lt-ltb, cond-true, cond-false}
 use Rattle.xi.specs.Tree.{Each}
-use Rattle.semantics.specs.State.{Store, Slot, Value, int, array, grown, withCell}
+use Rattle.semantics.specs.State.{Store, Slot, int, array, grown, withCell}
 use Rattle.semantics.specs.Numbers.{equalℤ, digit, ifSome, digitsOn, firstDigit, natural, ranged, literal, row, rowTakes, cellsFor, elementOf, filled, nested}
-use Rattle.semantics.specs.Readings.{RowEnds, IsRow, RowIsRow, OneRow, code, valueOn, IsNatural, isNatural, IsLiteral, plain, minus, LiteralIsLiteral, LiteralsAreTaken, NestedTakes, NestedLie, NestedInOrder}
-use Rattle.semantics.proofs.Lists.{at-append, at-end, at-first}
+use Rattle.semantics.specs.Readings.{RowEnds, IsRow, RowIsRow, OneRow, code, valueOn, IsNatural, isNatural, IsLiteral, plain, minus, LiteralIsLiteral, LiteralsAreTaken, NumeralIsTaken, NestedTakes, NestedInOrder}
+use Rattle.semantics.specs.Rules.{isZero}
+use Rattle.semantics.proofs.Decimal.{numeral-is-written}
+use Rattle.semantics.proofs.Lists.{at-first, each-append}
 
 -- rows
 
@@ -143,6 +149,41 @@ not-minus (isNatural d ds l h s) z = cond-false (eqb (48 + d) 45) _ _ (ne-eqb (4
 pub literals-are-taken : LiteralsAreTaken
 literals-are-taken zs z (plain {m = m} n h) = not-minus n z ∙ ap (ranged false) (natural-taken n) ∙ cond-true (ltb m (2 ^ 63)) _ _ (lt-ltb m (2 ^ 63) h)
 literals-are-taken zs z (minus {m = m} n h) = ap (ranged true) (natural-taken n) ∙ cond-true (leb m (2 ^ 63)) _ _ (le-leb m (2 ^ 63) h)
+
+-- the decimal text of a number above 0 is a literal
+
+value-last : (m : ℕ) (ds : List ℕ) (e : ℕ) → valueOn m (ds ++ (e ∷ [])) ≡ 10 * valueOn m ds + e
+value-last m [] e = refl
+value-last m (d ∷ ds) e = value-last (10 * m + d) ds e
+
+codes-append : (ds es : List ℕ) → map code (ds ++ es) ≡ map code ds ++ map code es
+codes-append [] es = refl
+codes-append (d ∷ ds) es = ap {B = List ℤ} (λ l. code d ∷ l) (codes-append ds es)
+
+pos-append : (xs ys : List ℕ) → map pos (xs ++ ys) ≡ map pos xs ++ map pos ys
+pos-append [] ys = refl
+pos-append (x ∷ xs) ys = ap {B = List ℤ} (λ l. pos x ∷ l) (pos-append xs ys)
+
+natural-last : {zs : List ℤ} {m : ℕ} (e : ℕ) → e ≤ 9 → IsNatural zs m → IsNatural (zs ++ (code e ∷ [])) (10 * m + e)
+natural-last e h (isNatural d ds l k s) =
+    subst (λ (z : List ℤ). IsNatural z (10 * valueOn d ds + e)) (codes-append (d ∷ ds) (e ∷ []))
+    (subst (λ (m : ℕ). IsNatural (map code ((d ∷ ds) ++ (e ∷ []))) m) (value-last d ds e) (isNatural d (ds ++ (e ∷ [])) l k (each-append (λ (x : ℕ). x ≤ 9) ds (e ∷ []) s (h, tt))))
+
+decimal-natural : (n : ℕ) → n < 2 ^ 64 → 0 < n → IsNatural (map pos (decimal n)) n
+decimal-natural n small =
+    decimal-by-steps (λ n ds. 0 < n → IsNatural (map pos ds) n)
+    (λ n l p. isNatural n [] p (omega arith) tt)
+    (λ n ds l r p. subst (λ (m : ℕ). IsNatural (map pos (ds ++ ((48 + n % 10) ∷ []))) m) (omega arith)
+    (subst (λ (z : List ℤ). IsNatural z (10 * (n / 10) + n % 10)) (sym (pos-append ds ((48 + n % 10) ∷ []))) (natural-last (n % 10) (omega arith) (r (omega arith)))))
+    n small
+
+signed-literal : (z : ℤ) → SFits w64 z → isZero z ≡ false → IsLiteral (map pos (signed z)) z
+signed-literal (pos zero) f e = absurd (true≢false e)
+signed-literal (pos (suc n)) f e = plain (decimal-natural (suc n) (omega (arith, f .sfits)) (omega arith)) (f .sfits)
+signed-literal (negsuc n) f e = minus (decimal-natural (suc n) (omega (arith, f .sfits)) (omega arith)) (f .sfits)
+
+pub numeral-is-taken : NumeralIsTaken
+numeral-is-taken z f e = rw (numeral-is-written z f) (literals-are-taken (map pos (signed z)) z (signed-literal z f e))
 
 -- nested arrays
 

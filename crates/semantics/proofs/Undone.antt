@@ -1,15 +1,15 @@
 -- A stop is at a begun node whose own work is next, and changes nothing.
-use mathlib.Core.Path.{_≡_, refl, sym, ap, _∙_}
-use mathlib.Core.List.{List, [], _∷_, _++_}
-use mathlib.Core.Option.{Option, none, some, Option·none-ne-some}
-use Prim.Native.Nat.{ℕ, zero, suc, _+_}
+use mathlib.Core.Path.{_≡_, refl, ap, _∙_}
+use mathlib.Core.List.{List, [], _∷_}
+use mathlib.Core.Option.{some, Option·none-ne-some}
+use Prim.Native.Nat.{ℕ, zero, suc}
 use native.Mathlib.Omega.{arith}
 use Rattle.xi.specs.declared.stop.Stop.{Stop}
 use Rattle.xi.specs.Program.{Program}
 use Rattle.xi.specs.Tree.{nodeAt}
-use Rattle.semantics.specs.State.{Value, Variable, Store, Task, begin, finish, leave, back, Core, Host, Limits, Effect, Move, go, finished, stop, stuck}
-use Rattle.semantics.specs.Rules.{unwind, finishes, does, next, step}
-use Rattle.semantics.specs.Runs.{Config, Outcome, done, stopped, broken, moved, advance, free, settle, paid, turn, run, after, start, Setup, limits, waits}
+use Rattle.semantics.specs.State.{Value, Variable, Store, Task, begin, finish, leave, back, Core, Host, Limits, Move, go, finished, stop, stuck}
+use Rattle.semantics.specs.Rules.{unwind, does, next, step}
+use Rattle.semantics.specs.Runs.{Config, stopped, moved, advance, free, settle, paid, turn, run, after, start, limits, waits}
 use Rattle.semantics.specs.Laws.{StopsUndone, StopChangesNothing, StopsAtItsNode}
 use Rattle.semantics.proofs.Every.{finishes-all}
 use Rattle.semantics.proofs.Fuel.{ended-all, unless-all}

@@ -1,7 +1,7 @@
 -- What a grant of fuel is, as a relation: it goes on until a node would begin unpaid, or the run has ended.
 use mathlib.Core.Path.{_≡_}
 use mathlib.Core.Bool.{true, false}
-use mathlib.Core.Option.{Option, none, some}
+use mathlib.Core.Option.{none, some}
 use Prim.Native.Nat.{ℕ, zero, suc, _+_}
 use Rattle.xi.specs.Program.{Program}
 use Rattle.semantics.specs.State.{Limits}

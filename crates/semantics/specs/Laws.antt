@@ -1,13 +1,13 @@
 -- The laws of fuel and of characters.
 use mathlib.Core.Path.{_≡_}
-use mathlib.Core.List.{List, [], _∷_, _++_}
+use mathlib.Core.List.{List, _∷_, _++_}
 use mathlib.Core.Bool.{true}
 use mathlib.Core.Option.{Option, none, some}
-use Prim.Native.Nat.{ℕ, zero, suc, _+_, _≤_}
+use Prim.Native.Nat.{ℕ, _+_, _≤_}
 use lib.ListN.{length}
 use Rattle.xi.specs.declared.stop.Stop.{Stop}
 use Rattle.xi.specs.Program.{Program}
-use Rattle.semantics.specs.State.{Task, finish, Host, Limits}
+use Rattle.semantics.specs.State.{Task, finish, Limits}
 use Rattle.semantics.specs.Runs.{Config, Setup, Outcome, stopped, limits, advance, run, after, waits}
 
 -- granting m and then n is granting m + n

@@ -1,13 +1,12 @@
 -- What the operations compute: arithmetic modulo 2^64, rounding, numerals, rows, cells of nested arrays.
-use mathlib.Core.Path.{_≡_}
 use mathlib.Core.Bool.{Bool, true, false, cond}
-use mathlib.Core.List.{List, [], _∷_, _++_, map}
+use mathlib.Core.List.{List, [], _∷_}
 use mathlib.Core.Option.{Option, none, some}
-use Prim.Native.Nat.{ℕ, zero, suc, _+_, _-_, _*_, _/_, _^_}
+use Prim.Native.Nat.{ℕ, zero, suc, _+_, _-_, _*_, _/_, _%_, _^_}
 use lib.IntN.{ℤ, pos, negsuc, negℤ, natAbs}
 use lib.ListN.{length, replicate}
 use lib.Dec.{leb, ltb, eqb}
-use Rattle.semantics.specs.State.{Slot, Store, array, grown, withCell}
+use Rattle.semantics.specs.State.{Store, array, grown, withCell}
 
 -- two whole numbers have the same sign
 abbrev pub sameSign : ℤ → ℤ → Bool
@@ -67,6 +66,16 @@ ranged false (some m) = cond (ltb m (2 ^ 63)) (some (pos m)) none
 abbrev pub literal : List ℤ → Option ℤ
 literal [] = none
 literal (z ∷ zs) = cond (equalℤ z (pos 45)) (ranged true (natural zs)) (ranged false (natural (z ∷ zs)))
+
+-- the decimal digits of a number, before what is written so far; the first argument bounds how many there are
+abbrev pub digitsBefore : ℕ → ℕ → List ℕ → List ℕ
+digitsBefore zero n t = t
+digitsBefore (suc k) n t = cond (ltb n 10) ((48 + n) ∷ t) (digitsBefore k (n / 10) ((48 + n % 10) ∷ t))
+
+-- the decimal text of an `int`
+abbrev pub numeral : ℤ → List ℕ
+numeral (pos n) = digitsBefore 20 n []
+numeral (negsuc n) = 45 ∷ digitsBefore 20 (suc n) []
 
 -- rows
 

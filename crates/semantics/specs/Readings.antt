@@ -1,19 +1,19 @@
 -- Second readings: what the computing definitions come to, in the words of the rules.
 use mathlib.Core.Path.{_≡_}
-use mathlib.Core.Bool.{Bool, true, false}
+use mathlib.Core.Bool.{false}
 use mathlib.Core.List.{List, [], _∷_, _++_, map}
-use mathlib.Core.Option.{Option, none, some}
-use Prim.Native.Nat.{ℕ, zero, suc, _+_, _-_, _*_, _^_, _<_, _≤_}
+use mathlib.Core.Option.{some}
+use Prim.Native.Nat.{ℕ, suc, _+_, _-_, _*_, _^_, _<_, _≤_}
 use lib.IntN.{ℤ, pos, negsuc, _+ℤ_, _-ℤ_, _*ℤ_, negℤ, natAbs}
 use lib.Signed.{quotZ, remZ}
-use lib.ListN.{length, getElem?, take}
+use lib.ListN.{length, getElem?}
 use mir.Syntax.{w64}
 use mir.Val.{SFits}
 use Rattle.std.specs.shelf.Signed.{wrapped}
 use Rattle.std.specs.Written.{signed}
 use Rattle.xi.specs.Tree.{Each}
-use Rattle.semantics.specs.State.{Store, Slot, int, array}
-use Rattle.semantics.specs.Numbers.{nearest, literal, row, rowTakes, cellsFor, nested}
+use Rattle.semantics.specs.State.{Store, int, array}
+use Rattle.semantics.specs.Numbers.{nearest, literal, numeral, row, rowTakes, cellsFor, nested}
 use Rattle.semantics.specs.Rules.{isZero}
 
 -- arithmetic modulo 2^64: the answer is in range, and differs by a multiple of 2^64
@@ -96,6 +96,14 @@ LiteralIsLiteral = (zs : List ℤ) (z : ℤ) → literal zs ≡ some z → IsLit
 
 abbrev pub LiteralsAreTaken : Type 0
 LiteralsAreTaken = (zs : List ℤ) (z : ℤ) → IsLiteral zs z → literal zs ≡ some z
+
+-- what `unparseInt` writes: the text that Rust writes of the number
+abbrev pub NumeralIsWritten : Type 0
+NumeralIsWritten = (z : ℤ) → SFits w64 z → numeral z ≡ signed z
+
+-- and `parseInt` takes it back, but for 0, which is no literal
+abbrev pub NumeralIsTaken : Type 0
+NumeralIsTaken = (z : ℤ) → SFits w64 z → isZero z ≡ false → literal (map pos (numeral z)) ≡ some z
 
 -- nested arrays take as many cells as said, and leave the cells of before
 abbrev pub NestedTakes : Type 0

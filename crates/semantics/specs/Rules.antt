@@ -3,30 +3,27 @@ use mathlib.Core.Bool.{Bool, true, false, cond, not}
 use mathlib.Core.List.{List, [], _∷_, _++_, map}
 use mathlib.Core.Option.{Option, none, some}
 use Prim.Native.Nat.{ℕ, zero, suc, _+_, _-_}
-use lib.IntN.{ℤ, pos, negsuc, _+ℤ_, _-ℤ_, _*ℤ_, negℤ, natAbs}
+use lib.IntN.{ℤ, pos, negsuc, _+ℤ_, _-ℤ_, _*ℤ_, negℤ}
 use lib.ListN.{length, getElem?}
 use lib.Signed.{ltZ, leZ, quotZ, remZ}
 use lib.Dec.{leb, ltb, eqb}
 use mir.Syntax.{w64}
 use Rattle.std.specs.shelf.Signed.{wrapped}
-use Rattle.std.specs.Written.{signed}
 use Rattle.xi.specs.declared.node.Node.{Node}
 use Rattle.xi.specs.declared.node.Node.the-variants.{Number, Truth, Text, Variable as VariableNode, Element, Length, Unary, Binary, Constructor, Call, LibraryCall}
 use Rattle.xi.specs.declared.node.Node.the-variants.{Declare, DeclareValue, DeclareCall, Assign, AssignElement, If, IfElse, While, Return, CallStatement, Target, Discard, Block}
-use Rattle.xi.specs.declared.node.UnaryOperator.{UnaryOperator}
 use Rattle.xi.specs.declared.node.UnaryOperator.the-variants.{Minus, Not}
 use Rattle.xi.specs.declared.node.Operator.{Operator}
 use Rattle.xi.specs.declared.node.Operator.the-variants.{Add, Subtract, Multiply, Divide, Remainder, Less, LessEqual, Greater, GreaterEqual, Equal, NotEqual, And, Or}
 use Rattle.xi.specs.declared.node.LibraryFunction.{LibraryFunction}
 use Rattle.xi.specs.declared.node.LibraryFunction.the-variants.{Print, Println, Readln, Getchar, Eof, ParseInt, UnparseInt, Ratio}
-use Rattle.xi.specs.declared.program.Function.{Function}
 use Rattle.xi.specs.declared.stop.Stop.the-variants.{ZeroDivisor, Index, Unset, NegativeLength, CellsTooFew, TooDeep, RoomTooSmall, NoCharacter}
 use Rattle.xi.specs.Program.{Program, itemsOf}
 use Rattle.xi.specs.Tree.{nodeAt, entriesOf, Part, firstParts, all, statementPlace}
 use Rattle.xi.specs.Typing.{Binding, pushed, orElse, functionNamed, parametersOf, targetBindings}
 use Rattle.semantics.specs.State.{Value, int, bool, array, Slot, Variable, variable, Store, Task, begin, finish, leave, back, Core, core, Host, Limits}
 use Rattle.semantics.specs.State.{Effect, quiet, wrote, took, Move, go, finished, stop, stuck, find, put, keep, findGlobal, putGlobal, elementType, grown, withCell, withGlobals, withDepth, elementsAt}
-use Rattle.semantics.specs.Numbers.{nearest, equalℤ, equalBool, literal, row, rowTakes, isCharacter, cellsFor, elementOf, nested}
+use Rattle.semantics.specs.Numbers.{nearest, equalℤ, equalBool, literal, numeral, row, rowTakes, isCharacter, cellsFor, elementOf, nested}
 
 -- operands, taken with the type that a rule asks; an operand of another type is stuck
 
@@ -257,7 +254,7 @@ module _ (P : Program) (L : Limits) (h : Host) where
   serves Getchar n E O k s = go (core E (int (nextCharacter (h .left)) ∷ O) k s) (took (nextTakes (h .left)))
   serves Eof n E O k s = answer E O k s (bool (atEnd (h .left)))
   serves ParseInt n E O k s = takeArray O (λ p O. elements s p (λ cs. integers n cs (λ zs. go (core E (parsed (literal zs) O) k s) quiet)))
-  serves UnparseInt n E O k s = takeInt O (λ z O. makeArray L n 0 (slotsOf (signed z)) E O k s quiet)
+  serves UnparseInt n E O k s = takeInt O (λ z O. makeArray L n 0 (slotsOf (numeral z)) E O k s quiet)
   serves Ratio n E O k s = twoInts O (λ a b O. unlessZero n b (answer E O k s (int (wrapped w64 (nearest a b)))))
 
   -- a node's own work, once its first parts are worked out: one rule for each kind

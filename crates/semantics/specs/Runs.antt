@@ -1,18 +1,21 @@
 -- Runs: what fuel pays for, and where a run stands after so much of it.
-use mathlib.Core.Bool.{Bool, true, false}
+use mathlib.Core.Bool.{Bool, true, false, not}
 use mathlib.Core.List.{List, [], _∷_, _++_}
 use mathlib.Core.Option.{Option, none, some}
 use Prim.Native.Nat.{ℕ, zero, suc, _+_, _-_}
-use lib.IntN.{pos}
+use lib.IntN.{ℤ, pos}
 use lib.ListN.{length, take, drop}
+use Rattle.std.specs.declared.option.Option.{Option as RustOption}
+use Rattle.std.specs.declared.option.Option.the-variants.{None, Some}
 use Rattle.xi.specs.declared.program.Function.{Function}
+use Rattle.xi.specs.declared.program.GlobalVariable.{GlobalVariable}
 use Rattle.xi.specs.declared.stop.Stop.{Stop}
 use Rattle.xi.specs.Program.{Program}
 use Rattle.xi.specs.Typing.{Binding, parametersOf}
 use Rattle.xi.specs.Obeys.{mainOf}
-use Rattle.semantics.specs.State.{Value, int, array, Slot, Variable, variable, Made, Store, Task, begin, finish, leave, back, Core, core, Host, Limits}
+use Rattle.semantics.specs.State.{bool, int, array, Slot, Variable, variable, Store, Task, begin, finish, leave, back, Core, core, Host, Limits}
 use Rattle.semantics.specs.State.{Effect, quiet, wrote, took, Move, go, finished, stop, stuck}
-use Rattle.semantics.specs.Rules.{step}
+use Rattle.semantics.specs.Rules.{isZero, step}
 
 -- how a run has ended; a run that is broken had no next step
 pub data Outcome : Type 0 where
@@ -109,6 +112,21 @@ pub record Setup : Type 0 where
   pub left : List ℕ
   pub written : List ℕ
   pub room : ℕ
+
+-- how many characters the script was handed
+abbrev pub taken : Config → ℕ
+taken g = length (g .host .handed)
+
+-- the first value that a sheet gives a global, by its type
+abbrev pub givenFirst : ℕ → RustOption ℤ → Slot
+givenFirst t None = none
+givenFirst zero (Some z) = some (int z)
+givenFirst (suc zero) (Some z) = some (bool (not (isZero z)))
+givenFirst (suc (suc t)) (Some z) = none
+
+abbrev pub givenFirsts : List GlobalVariable → List Slot
+givenFirsts [] = []
+givenFirsts (g ∷ gs) = givenFirst (g .ty .number) (g .first) ∷ givenFirsts gs
 
 abbrev pub limits : Setup → Limits
 limits S = record { cells = S .cells; depth = S .depth }

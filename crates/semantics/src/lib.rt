@@ -2,10 +2,12 @@
 // Each function here carries in its contract what is proved of them.
 ghost use Rattle.semantics.specs.Grants.{AfterIsGranted, FurtherIsGranted, GrantLeadsToOne};
 ghost use Rattle.semantics.specs.Laws.{GrantsAdd, EndedStays, WritesOn, HandsOn, CharactersKept, RoomCounted, ComesToRest, SpendsGranted, StopChangesNothing, StopsAtItsNode};
-ghost use Rattle.semantics.specs.Soundness.{NeverStuck, StepKeepsSound};
+ghost use Rattle.semantics.specs.Soundness.{NeverStuck, StepKeepsSound, AfterIsSound, SoundIsSmall, GivenFirstsFit};
 ghost use Rattle.semantics.specs.Readings.{WrappedIsModulo, DivisionIsDivision, QuotientInRange, SmallestOverMinusOne, NearestIsNearest};
-ghost use Rattle.semantics.specs.Readings.{RowIsRow, OneRow, LiteralIsLiteral, LiteralsAreTaken, NestedTakes, NestedInOrder};
-ghost use Rattle.semantics.specs.Starred.{StarredExamples};
+ghost use Rattle.semantics.specs.Readings.{RowIsRow, OneRow, LiteralIsLiteral, LiteralsAreTaken, NumeralIsWritten, NumeralIsTaken, NestedTakes, NestedInOrder};
+ghost use Rattle.semantics.specs.Starred.{StarredExamples, FurtherExamples};
+ghost use Rattle.semantics.specs.Sheets.{emptyMain};
+ghost use Rattle.xi.specs.Obeys.{Obeys};
 
 // A grant goes on until a node would begin unpaid, or the run has ended; `after` is where grants lead, and they lead nowhere else.
 pub fn grants()
@@ -36,10 +38,13 @@ pub fn host()
     ensures room { λ _. ⌜ RoomCounted ⌝ }
 {}
 
-// No run of a sheet that obeys the rules is ever stuck, and all that is set has its type.
+// No run of a sheet that obeys the rules is ever stuck, and all that is set has its type; every open call is small.
 pub fn soundness()
     ensures never { λ _. ⌜ NeverStuck ⌝ }
     ensures keeps { λ _. ⌜ StepKeepsSound ⌝ }
+    ensures sound { λ _. ⌜ AfterIsSound ⌝ }
+    ensures small { λ _. ⌜ SoundIsSmall ⌝ }
+    ensures firsts { λ _. ⌜ GivenFirstsFit ⌝ }
 {}
 
 // The definitions that compute, read in the words of the rules.
@@ -53,11 +58,15 @@ pub fn readings()
     ensures single { λ _. ⌜ OneRow ⌝ }
     ensures literal { λ _. ⌜ LiteralIsLiteral ⌝ }
     ensures taken { λ _. ⌜ LiteralsAreTaken ⌝ }
+    ensures written { λ _. ⌜ NumeralIsWritten ⌝ }
+    ensures back { λ _. ⌜ NumeralIsTaken ⌝ }
     ensures cells { λ _. ⌜ NestedTakes ⌝ }
     ensures order { λ _. ⌜ NestedInOrder ⌝ }
 {}
 
-// Runs of whole sheets.
+// Runs of whole sheets; the smallest sheet obeys the rules.
 pub fn starred()
-    ensures { λ _. ⌜ StarredExamples ⌝ }
+    ensures runs { λ _. ⌜ StarredExamples ⌝ }
+    ensures further { λ _. ⌜ FurtherExamples ⌝ }
+    ensures obeys { λ _. ⌜ Obeys emptyMain ⌝ }
 {}

@@ -1,10 +1,9 @@
 -- A sheet that obeys the rules: what reading grants, and then tree, names and types.
 use mathlib.Core.Path.{_≡_}
-use mathlib.Core.Bool.{Bool, true, false, cond}
-use mathlib.Core.List.{List, [], _∷_, _++_, map}
+use mathlib.Core.Bool.{cond}
+use mathlib.Core.List.{List, [], _∷_, map}
 use mathlib.Core.Option.{Option, none, some}
 use Prim.Native.Nat.{ℕ, zero, suc, _+_, _<_, _≤_}
-use lib.Dec.{eqb}
 use lib.IntN.{ℤ, pos}
 use lib.ListN.{length, getD}
 use mir.Syntax.{w64}
@@ -22,8 +21,8 @@ use Rattle.xi.specs.declared.program.GlobalVariable.{GlobalVariable}
 use Rattle.xi.specs.declared.program.Parameter.{Parameter}
 use Rattle.xi.specs.declared.program.Function.{Function}
 use Rattle.xi.specs.Program.{Program, itemsOf}
-use Rattle.xi.specs.Tree.{nodeAt, entriesOf, sortOf, firstParts, laterParts, partsOf, Each, times, Tree}
-use Rattle.xi.specs.Typing.{Binding, Scope, pushed, Tables, Inherit, ScopesBy, Typed, Declarable, declaredBy, ReturnsBy, EndsWith, parametersOf, resultsOf, functionNamed}
+use Rattle.xi.specs.Tree.{nodeAt, sortOf, firstParts, laterParts, partsOf, Each, times, Tree}
+use Rattle.xi.specs.Typing.{pushed, Tables, Inherit, ScopesBy, Typed, Declarable, declaredBy, ReturnsBy, EndsWith, parametersOf, resultsOf}
 
 -- a run lies within a list of that length, and has at most so many items
 pub record Within (size most : ℕ) (r : Run) : Type 0 where

@@ -1,12 +1,12 @@
 -- Names and types, by tables: for each node the names in scope where it begins, the type of its value, and the results that its function owes.
 -- One local rule for each kind of node says what its parts' tables must be.
 use mathlib.Core.Path.{_≡_}
-use mathlib.Core.Bool.{Bool, true, false, cond}
+use mathlib.Core.Bool.{cond}
 use mathlib.Core.List.{List, [], _∷_, _++_, map}
 use mathlib.Core.Option.{Option, none, some}
-use Prim.Native.Nat.{ℕ, zero, suc, _+_, _<_, _≤_}
+use Prim.Native.Nat.{ℕ, zero, suc, _<_}
 use lib.Dec.{eqb}
-use lib.ListN.{length, getElem?, replicate}
+use lib.ListN.{length, replicate}
 use Rattle.xi.specs.declared.node.Node.{Node}
 use Rattle.xi.specs.declared.node.Node.the-variants.{Number, Truth, Text, Variable, Element, Length, Unary, Binary, Constructor, Call, LibraryCall}
 use Rattle.xi.specs.declared.node.Node.the-variants.{Declare, DeclareValue, DeclareCall, Assign, AssignElement, If, IfElse, While, Return, CallStatement, Target, Discard, Block}

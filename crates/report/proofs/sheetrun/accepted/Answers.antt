@@ -5,7 +5,7 @@ use lib.ListN.{length-map}
 use Rattle.std.specs.Of.String.{string-bytes}
 use Rattle.report.specs.Replies.{spaced}
 use Rattle.report.proofs.Texts.{retold}
-use Rattle.report.proofs.sheetrun.read.Needs as need
+use Rattle.report.proofs.sheetrun.accepted.Needs as need
 
 pub returns : need.returns
 returns c =
@@ -17,4 +17,4 @@ returns c =
     let globals = c .len-globals .ensures ∙ sheet .globals .ok .0 in
     let functions = c .len-functions .ensures ∙ sheet .functions .records .ok .0 in
     retold string-bytes (c .format .result) _ _ (c .format .ensures .made)
-    (_∙_ {b = codes "= read" ++ spaced (c .len-names .result ∷ c .len-constants .result ∷ c .len-entries .result ∷ c .len-nodes .result ∷ c .len-globals .result ∷ c .len-functions .result ∷ []) (codes "\n")} (simp append-assoc) (λ j. codes "= read" ++ spaced (names j ∷ constants j ∷ entries j ∷ nodes j ∷ globals j ∷ functions j ∷ []) (codes "\n")))
+    (_∙_ {b = codes "= checked" ++ spaced (c .len-names .result ∷ c .len-constants .result ∷ c .len-entries .result ∷ c .len-nodes .result ∷ c .len-globals .result ∷ c .len-functions .result ∷ []) (codes "\n")} (simp append-assoc) (λ j. codes "= checked" ++ spaced (names j ∷ constants j ∷ entries j ∷ nodes j ∷ globals j ∷ functions j ∷ []) (codes "\n")))

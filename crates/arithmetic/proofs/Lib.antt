@@ -1,0 +1,3 @@
+pub mod Quotients
+pub mod Ratios
+pub mod Decimals

@@ -1,0 +1,10 @@
+pub mod Trees
+pub mod Walk
+pub mod Checked
+pub mod Facts
+pub mod Held
+pub mod CheckedOf
+pub mod Scopes
+pub mod Wants
+pub mod Tests
+pub mod Exact

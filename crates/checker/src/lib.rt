@@ -1,0 +1,21 @@
+// Checks a syntax sheet: from bytes to a sheet that obeys every rule, or to the first rule that it breaks.
+mod access;
+mod bodies;
+pub mod checked;
+mod claims;
+mod declarations;
+mod ends;
+mod expressions;
+mod library;
+mod lookup;
+mod main_function;
+mod mark;
+mod named;
+mod names;
+mod nodes;
+mod operators;
+mod place;
+mod scope;
+mod statements;
+mod tree;
+mod wanted;
