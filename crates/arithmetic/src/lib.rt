@@ -1,4 +1,6 @@
 // The arithmetic of a run: numbers of 64 bits with a sign, modulo 2^64.
+#![tactic(auto)]
+
 ghost use Rattle.std.specs.Prelude.{◌≡◌, ◌+ℤ◌, ◌-ℤ◌, ◌*ℤ◌, neg_ℤ, if◌then◌else◌, Some, None, int_div, int_rem};
 ghost use Rattle.std.specs.Int.{int_wrap, w64};
 ghost use Rattle.semantics.specs.Numbers.{nearest};

@@ -1,4 +1,6 @@
 // Checks a syntax sheet: from bytes to a sheet that obeys every rule, or to the first rule that it breaks.
+#![tactic(auto)]
+
 mod access;
 mod bodies;
 pub mod checked;

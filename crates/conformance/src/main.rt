@@ -1,4 +1,6 @@
 // Compares the replies to stored inputs with what they should be: a case a line, input and reply in hexadecimal.
+#![tactic(auto)]
+
 use anyhow::anyhow;
 use report::hexadecimal;
 use report::sheetrun::reply;

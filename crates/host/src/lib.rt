@@ -1,4 +1,6 @@
 // What a script reads characters from and writes characters to.
+#![tactic(auto)]
+
 ghost use Rattle.std.specs.Prelude.{◌≡◌, ℕ, ◌-◌, List, [], ◌∷◌, ◌++◌, if◌then◌else◌};
 ghost use Rattle.host.specs.Text.{item, first, rest, takes, row_within};
 

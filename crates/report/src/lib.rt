@@ -1,3 +1,5 @@
 // What the programs say, as functions on values.
+#![tactic(auto)]
+
 pub mod hexadecimal;
 pub mod sheetrun;

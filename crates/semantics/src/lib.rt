@@ -1,5 +1,7 @@
 // The rules of a run of a checked sheet stand in specs/: State, Numbers, Rules, Runs. They are definitions that compute, and no code.
 // Each function here carries in its contract what is proved of them.
+#![tactic(auto)]
+
 ghost use Rattle.semantics.specs.Grants.{AfterIsGranted, FurtherIsGranted, GrantLeadsToOne};
 ghost use Rattle.semantics.specs.Laws.{GrantsAdd, EndedStays, WritesOn, HandsOn, CharactersKept, RoomCounted, ComesToRest, SpendsGranted, StopChangesNothing, StopsAtItsNode};
 ghost use Rattle.semantics.specs.Soundness.{NeverStuck, StepKeepsSound, AfterIsSound, SoundIsSmall, GivenFirstsFit};

@@ -1,4 +1,6 @@
 // Reads a syntax sheet: from bytes to its parts, or to the first rule of reading that it breaks.
+#![tactic(auto)]
+
 pub mod functions;
 pub mod globals;
 pub mod item;

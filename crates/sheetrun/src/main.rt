@@ -1,4 +1,6 @@
 // Reads a sheet and the text of its run from standard input, and prints what comes of it.
+#![tactic(auto)]
+
 use report::sheetrun::reply;
 use std::io::{Read, Write};
 
