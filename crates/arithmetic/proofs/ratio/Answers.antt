@@ -3,8 +3,8 @@ use Rattle.std.proofs.lemmas.Int.{to_z-of_z, of_z-to_z}
 use Rattle.arithmetic.proofs.Ratios.{rounded-fits, same-ratio, other-ratio}
 use Rattle.arithmetic.proofs.ratio.Goals as goal
 
-pub overflow-cast-rounded : goal.overflow-cast-rounded
-overflow-cast-rounded c = record { fits = grind (arith, to_z-of_z, rounded-fits) }
+pub overflow_cast-rounded : goal.overflow_cast-rounded
+overflow_cast-rounded c = record { fits = grind (arith, to_z-of_z, rounded-fits) }
 
 pub returns-then-x-y : goal.returns-then-x-y
 returns-then-x-y c = grind (arith, to_z-of_z, same-ratio)

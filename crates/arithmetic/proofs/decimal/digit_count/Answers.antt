@@ -2,8 +2,8 @@ use Rattle.std.proofs.Common.{arith}
 use Rattle.arithmetic.proofs.Decimals.{count_one, count_more, count_bound}
 use Rattle.arithmetic.proofs.decimal.digit_count.Goals as goal
 
-pub overflow-add-digits : goal.overflow-add-digits
-overflow-add-digits c = omega (arith, count_bound c.args.n (omega arith))
+pub overflow_add-digits : goal.overflow_add-digits
+overflow_add-digits c = omega (arith, count_bound c.args.n (omega arith))
 
 pub loop-rest-preserved : goal.loop-rest-preserved
 loop-rest-preserved c = (omega arith, omega (arith, count_more c.loop-rest.rest (omega arith) (omega arith)))

@@ -8,5 +8,5 @@ pub returns-then-z-lt0 : goal.returns-then-z-lt0
 returns-then-z-lt0 c =
     record {
       value = grind (arith, to_z-of_z, count_minus);
-      bound = omega (arith, length-decimal-le 19 c.unsigned-abs.result (omega arith) (omega arith) (omega arith));
+      bound = omega (arith, length-decimal-le 19 c.unsigned_abs.result (omega arith) (omega arith) (omega arith));
     }

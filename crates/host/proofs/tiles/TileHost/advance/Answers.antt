@@ -8,14 +8,14 @@ returns-then-at-self c = record {
   out = refl;
 }
 
-pub returns-then-taken-piece-length : goal.returns-then-taken-piece-length
-returns-then-taken-piece-length c = record {
+pub returns-then-taken-piece_length : goal.returns-then-taken-piece_length
+returns-then-taken-piece_length c = record {
   left = rest_here c.args.self.now.width c.args.self.now.at c.args.self.now.taken c.args.self.now.heights.now (omega arith) (omega arith);
   out = refl;
 }
 
-pub returns-else-taken-piece-length : goal.returns-else-taken-piece-length
-returns-else-taken-piece-length c = record {
+pub returns-else-taken-piece_length : goal.returns-else-taken-piece_length
+returns-else-taken-piece_length c = record {
   left = rest-passed c.args.self.now.width c.args.self.now.at c.args.self.now.taken c.args.self.now.heights.now (omega arith) (omega arith);
   out = refl;
 }

@@ -9,8 +9,8 @@ returns-then-rest-unread c =
 
 pub loop-k-preserved : goal.loop-k-preserved
 loop-k-preserved c =
-    let unread-length : c.saturating-sub-unread.result ≡ length (piece_at c.args.self.now.width c.args.self.now.heights.now c.loop-k.k) - c.loop-k.taken = omega arith in
-    sym (item-later c.args.self.now.width c.loop-k.k c.loop-k.taken c.loop-k.rest c.saturating-sub-unread.result c.args.self.now.heights.now (omega arith) unread-length (omega arith)) ∙ c.loop-k.invariant
+    let unread-length : c.saturating_sub-unread.result ≡ length (piece_at c.args.self.now.width c.args.self.now.heights.now c.loop-k.k) - c.loop-k.taken = omega arith in
+    sym (item-later c.args.self.now.width c.loop-k.k c.loop-k.taken c.loop-k.rest c.saturating_sub-unread.result c.args.self.now.heights.now (omega arith) unread-length (omega arith)) ∙ c.loop-k.invariant
 
 pub returns : goal.returns
 returns c = item_end c.args.self.now.width c.loop-k.k c.loop-k.taken c.loop-k.rest c.args.self.now.heights.now (omega arith) ∙ c.loop-k.invariant

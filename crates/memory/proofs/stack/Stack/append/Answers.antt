@@ -4,8 +4,8 @@ use Rattle.memory.specs.Stacks.{items}
 use Rattle.memory.proofs.Words.{items-length, items_newest}
 use Rattle.memory.proofs.stack.Stack.append.Goals as goal
 
-pub overflow-sub-start : goal.overflow-sub-start
-overflow-sub-start c = let f = items-length c.args.from.now.words.now c.args.from.now.len in search rules
+pub overflow_sub-start : goal.overflow_sub-start
+overflow_sub-start c = let f = items-length c.args.from.now.words.now c.args.from.now.len in search rules
 
 pub loop-i-init : goal.loop-i-init
 loop-i-init c = (refl, c.requires.sized, refl)

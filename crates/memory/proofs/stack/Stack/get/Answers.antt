@@ -2,8 +2,8 @@ use Rattle.std.proofs.Common.{sym, arith, rules}
 use Rattle.memory.proofs.Words.{items-length, items_bottom}
 use Rattle.memory.proofs.stack.Stack.get.Goals as goal
 
-pub offset-bounds-self-i : goal.offset-bounds-self-i
-offset-bounds-self-i c = let e = items-length c.args.self.now.words.now c.args.self.now.len in search rules
+pub offset_bounds-self-i : goal.offset_bounds-self-i
+offset_bounds-self-i c = let e = items-length c.args.self.now.words.now c.args.self.now.len in search rules
 
 pub bounds-self-i : goal.bounds-self-i
 bounds-self-i c = let e = items-length c.args.self.now.words.now c.args.self.now.len in search rules

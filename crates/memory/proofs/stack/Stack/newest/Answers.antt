@@ -2,8 +2,8 @@ use Rattle.std.proofs.Common.{◌≡◌, ℕ, ◌-◌, take, drop, sym, ap, ◌�
 use Rattle.memory.proofs.Words.{items-length, items_oldest}
 use Rattle.memory.proofs.stack.Stack.newest.Goals as goal
 
-pub overflow-sub-result : goal.overflow-sub-result
-overflow-sub-result c = let e = items-length c.args.self.now.words.now c.args.self.now.len in search rules
+pub overflow_sub-result : goal.overflow_sub-result
+overflow_sub-result c = let e = items-length c.args.self.now.words.now c.args.self.now.len in search rules
 
 pub returns : goal.returns
 returns c =

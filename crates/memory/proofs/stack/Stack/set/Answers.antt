@@ -2,8 +2,8 @@ use Rattle.std.proofs.Common.{arith, length-set, rules}
 use Rattle.memory.proofs.Words.{items-length, items-set}
 use Rattle.memory.proofs.stack.Stack.set.Goals as goal
 
-pub offset-bounds-self-at : goal.offset-bounds-self-at
-offset-bounds-self-at c = let e = items-length c.args.self.now.words.now c.args.self.now.len in search rules
+pub offset_bounds-self-at : goal.offset_bounds-self-at
+offset_bounds-self-at c = let e = items-length c.args.self.now.words.now c.args.self.now.len in search rules
 
 pub bounds-self-at : goal.bounds-self-at
 bounds-self-at c = let e = items-length c.args.self.now.words.now c.args.self.now.len in search rules

@@ -2,8 +2,8 @@ use Rattle.std.proofs.Common.{◌≡◌, ℕ, suc, ◌-◌, get_or, sym, ap, ◌
 use Rattle.memory.proofs.Words.{items-length, get_or-newest_first}
 use Rattle.memory.proofs.stack.Stack.top.Goals as goal
 
-pub overflow-sub-result-2 : goal.overflow-sub-result-2
-overflow-sub-result-2 c = let e = items-length c.args.self.now.words.now c.args.self.now.len in search rules
+pub overflow_sub-result-2 : goal.overflow_sub-result-2
+overflow_sub-result-2 c = let e = items-length c.args.self.now.words.now c.args.self.now.len in search rules
 
 pub returns : goal.returns
 returns c =
