@@ -2,9 +2,9 @@ use Rattle.std.proofs.Common.{rules}
 use Rattle.checker.specs.Held.{held_by}
 use Rattle.checker.proofs.access.offset.Goals as goal
 
-pub overflow-add-result : goal.overflow-add-result
+pub overflow_add-result : goal.overflow_add-result
 unfolding held_by
-overflow-add-result c = search rules
+overflow_add-result c = search rules
 
 pub returns : goal.returns
 unfolding held_by

@@ -8,27 +8,27 @@ use Rattle.sheet.proofs.Outcomes.{said_on}
 use Rattle.sheet.proofs.Steps.{step-bad, step-good, no_more}
 use Rattle.checker.proofs.claims.claim_all.Goals as goal
 
-pub returns-in-err-claim-parts : goal.returns-in-err-claim-parts
-returns-in-err-claim-parts c =
+pub returns-in_err-claim_parts : goal.returns-in_err-claim_parts
+returns-in_err-claim_parts c =
     let D = held_by c.args.sheet.now in
-    let more : c.loop-n.n < length D.program.nodes = omega (arith, c.node-count-n-end.ensures) in
+    let more : c.loop-n.n < length D.program.nodes = omega (arith, c.node_count-n-end.ensures) in
     record {
-      said = said_on _ _ _ _ _ _ c.from-residual.ensures.1 c.in-err-claim-parts.ensures.said (λ k q e. sym c.loop-n.invariant.0 ∙ step-bad (parts_claimed D) _ _ _ more k q (ap (λ d. claimed_all D c.loop-n.n (parts_in D.program d) c.loop-n.marks) (sym c.node-at.ensures.same) ∙ e));
+      said = said_on _ _ _ _ _ _ c.from_residual.ensures.1 c.in_err-claim_parts.ensures.said (λ k q e. sym c.loop-n.invariant.0 ∙ step-bad (parts_claimed D) _ _ _ more k q (ap (λ d. claimed_all D c.loop-n.n (parts_in D.program d) c.loop-n.marks) (sym c.node_at.ensures.same) ∙ e));
       below = search rules;
     }
 
 pub loop-n-preserved : goal.loop-n-preserved
 loop-n-preserved c =
     let D = held_by c.args.sheet.now in
-    let more : c.loop-n.n < length D.program.nodes = omega (arith, c.node-count-n-end.ensures) in (
-      step-good (parts_claimed D) _ _ _ more _ (ap (λ d. claimed_all D c.loop-n.n (parts_in D.program d) c.loop-n.marks) (sym c.node-at.ensures.same) ∙ c.in-ok-claim-parts.ensures.said) ∙ c.loop-n.invariant.0,
-      below_more (λ n. PartsBelow D.program n (node_at D.program n)) _ c.loop-n.invariant.1 (subst (λ (d : Node). PartsBelow D.program c.loop-n.n d) c.node-at.ensures.same c.in-ok-claim-parts.ensures.below),
+    let more : c.loop-n.n < length D.program.nodes = omega (arith, c.node_count-n-end.ensures) in (
+      step-good (parts_claimed D) _ _ _ more _ (ap (λ d. claimed_all D c.loop-n.n (parts_in D.program d) c.loop-n.marks) (sym c.node_at.ensures.same) ∙ c.in_ok-claim_parts.ensures.said) ∙ c.loop-n.invariant.0,
+      below_more (λ n. PartsBelow D.program n (node_at D.program n)) _ c.loop-n.invariant.1 (subst (λ (d : Node). PartsBelow D.program c.loop-n.n d) c.node_at.ensures.same c.in_ok-claim_parts.ensures.below),
     )
 
 pub returns : goal.returns
 returns c =
     let D = held_by c.args.sheet.now in
-    let none : length D.program.nodes ≤ c.loop-n.n = omega (arith, c.node-count-n-end.ensures) in
+    let none : length D.program.nodes ≤ c.loop-n.n = omega (arith, c.node_count-n-end.ensures) in
     record {
       said = sym c.loop-n.invariant.0 ∙ no_more (parts_claimed D) _ _ _ none;
       below = λ n h. c.loop-n.invariant.1 n (omega arith);

@@ -19,15 +19,15 @@ module _
         ∙ (λ j. bindings_have (get_or ts i d).number (target_bindings (sym is j)) && targets_fit P (drop (i + 1) ns) (numbers_of (drop (i + 1) ts)))
         ∙ ap (λ x. x && targets_fit P (drop (i + 1) ns) (numbers_of (drop (i + 1) ts))) (sym fits)
 
-pub returns-then-not-target-fits : goal.returns-then-not-target-fits
-returns-then-not-target-fits c =
+pub returns-then-not-target_fits : goal.returns-then-not-target_fits
+returns-then-not-target_fits c =
     let long : c.loop-i.i < length c.args.types.now = omega (arith, c.requires.many) in
-    sym (turn (held_by c.args.sheet.now).program _ _ _ _ _ false c.loop-i-test.true long c.node-at.ensures.same c.if-not-target-fits.ensures) ∙ c.loop-i.invariant
+    sym (turn (held_by c.args.sheet.now).program _ _ _ _ _ false c.loop-i-test.true long c.node_at.ensures.same c.if-not-target_fits.ensures) ∙ c.loop-i.invariant
 
 pub loop-i-preserved : goal.loop-i-preserved
 loop-i-preserved c =
     let long : c.loop-i.i < length c.args.types.now = omega (arith, c.requires.many) in
-    sym (turn (held_by c.args.sheet.now).program _ _ _ _ _ true c.loop-i-test.true long c.node-at.ensures.same c.if-not-target-fits.ensures) ∙ c.loop-i.invariant
+    sym (turn (held_by c.args.sheet.now).program _ _ _ _ _ true c.loop-i-test.true long c.node_at.ensures.same c.if-not-target_fits.ensures) ∙ c.loop-i.invariant
 
 pub returns : goal.returns
 returns c =

@@ -2,9 +2,9 @@ use Rattle.std.proofs.Common.{rules}
 use Rattle.checker.specs.Held.{held_by}
 use Rattle.checker.proofs.lookup.parameters.Goals as goal
 
-pub slice-bounds-result-end : goal.slice-bounds-result-end
+pub slice_bounds-result-end : goal.slice_bounds-result-end
 unfolding held_by
-slice-bounds-result-end c = search rules
+slice_bounds-result-end c = search rules
 
 pub returns : goal.returns
 unfolding held_by

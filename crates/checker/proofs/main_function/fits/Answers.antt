@@ -9,4 +9,4 @@ returns-then-parameters-ne4 c = main_other _ _ _ _ c.parameters-parameters.ensur
 
 pub returns : goal.returns
 returns c =
-    main-fits _ _ _ _ _ c.parameters-parameters.ensures.items c.results.ensures _ c.if-parameters-ne1.false c.if-parameters-ne4.false c.is-empty.ensures
+    main-fits _ _ _ _ _ c.parameters-parameters.ensures.items c.results.ensures _ c.if-parameters-ne1.false c.if-parameters-ne4.false c.is_empty.ensures

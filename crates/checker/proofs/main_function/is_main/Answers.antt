@@ -1,9 +1,7 @@
-use Rattle.std.proofs.Common.{◌≡◌, ℕ, ◌<◌, List, [], map, length, get_or, vec_items, codes, sym, refl, ap, ◌∙◌, arith, Bor, MutBor, rules}
+use Rattle.std.proofs.Common.{◌≡◌, ℕ, ◌<◌, List, [], map, length, get_or, vec_items, codes, sym, refl, ap, ◌∙◌, arith, Bor, rules}
 use lib.ListN.{length-map}
 use Rattle.std.specs.Str.{bytes_eq}
 use Rattle.std.proofs.lemmas.List.{get_or-map}
-use Rattle.std.proofs.lemmas.Slice.Eq.{slice_eq-Decides, bytes_eq-Decides}
-use Rattle.std.proofs.lemmas.Bool.Decides.{same_from_decides, Decides-eqb}
 use Rattle.checker.specs.Held.{held_by}
 use Rattle.checker.proofs.main_function.is_main.Goals as goal
 
@@ -18,6 +16,5 @@ pub returns : goal.returns
 unfolding held_by
 returns c =
     let ws = vec_items c.args.sheet.now.names in
-    let within : c.args.function.name < length ws = omega (arith, c.requires, length-map ws (λ (v : MutBor (List ℕ)). v.now)) in
-    same_from_decides _ _ (slice_eq-Decides Decides-eqb _ _ _ c.eq.ensures) (bytes_eq-Decides _ _)
-    ∙ ap (λ w. bytes_eq w (codes "main")) (name_is ws _ _ within c.index.ensures)
+    let within : c.args.function.name < length ws = omega (arith, c.requires, length-map ws (λ (v : Bor (List ℕ)). v.now)) in
+    c.eq.ensures ∙ ap (λ w. bytes_eq w (codes "main")) (name_is ws _ _ within c.index.ensures)

@@ -14,20 +14,20 @@ turn P i F b more is e =
     at_drop_more (main_in P) P.functions i no_function more
     ∙ ap (λ x. cond x (some (function_at P i)) (main_in P (drop (i + 1) P.functions))) (ap (is_main P) (sym is) ∙ sym e)
 
-pub returns-then-is-main : goal.returns-then-is-main
-returns-then-is-main c =
+pub returns-then-is_main : goal.returns-then-is_main
+returns-then-is_main c =
     let P = (held_by c.args.sheet.now).program in
-    let more : c.loop-i.i < length P.functions = omega (arith, c.function-count-i-end.ensures) in
-    (more, sym c.loop-i.invariant ∙ turn P _ _ true more c.function-at.ensures.same c.if-is-main.ensures)
+    let more : c.loop-i.i < length P.functions = omega (arith, c.function_count-i-end.ensures) in
+    (more, sym c.loop-i.invariant ∙ turn P _ _ true more c.function_at.ensures.same c.if-is_main.ensures)
 
 pub loop-i-preserved : goal.loop-i-preserved
 loop-i-preserved c =
     let P = (held_by c.args.sheet.now).program in
-    let more : c.loop-i.i < length P.functions = omega (arith, c.function-count-i-end.ensures) in
-    sym (turn P _ _ false more c.function-at.ensures.same c.if-is-main.ensures) ∙ c.loop-i.invariant
+    let more : c.loop-i.i < length P.functions = omega (arith, c.function_count-i-end.ensures) in
+    sym (turn P _ _ false more c.function_at.ensures.same c.if-is_main.ensures) ∙ c.loop-i.invariant
 
 pub returns : goal.returns
 returns c =
     let P = (held_by c.args.sheet.now).program in
-    let none : length P.functions ≤ c.loop-i.i = omega (arith, c.function-count-i-end.ensures) in
+    let none : length P.functions ≤ c.loop-i.i = omega (arith, c.function_count-i-end.ensures) in
     sym c.loop-i.invariant ∙ at_drop_all (main_in P) P.functions c.loop-i.i none

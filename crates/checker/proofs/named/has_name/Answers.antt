@@ -12,13 +12,13 @@ module _ {A : Type 0} (name : A → ℕ) (as_read : List A) (i x n : ℕ) (y : A
       ∙ (λ j. eqb (name (sym is j)) x || has_name name (drop (i + 1) as_read) x)
       ∙ ap (λ v. v || has_name name (drop (i + 1) as_read) x) (ap (λ m. eqb m x) (sym of) ∙ e)
 
-pub returns-then-name-number-name : goal.returns-then-name-number-name
-returns-then-name-number-name g c =
-    sym (turn g.T.Named.name _ _ _ _ _ c.loop-item-test.true c.item-item.is c.name-number.ensures true (eq-eqb _ _ c.if-name-number-name.true)) ∙ c.loop-item.invariant
+pub returns-then-name_number-name : goal.returns-then-name_number-name
+returns-then-name_number-name g c =
+    sym (turn g.T.Named.name _ _ _ _ _ c.loop-item-test.true c.item-item.is c.name_number.ensures true (eq-eqb _ _ c.if-name_number-name.true)) ∙ c.loop-item.invariant
 
 pub loop-item-preserved : goal.loop-item-preserved
 loop-item-preserved g c =
-    sym (turn g.T.Named.name _ _ _ _ _ c.loop-item-test.true c.item-item.is c.name-number.ensures false (ne_eqb _ _ c.if-name-number-name.false)) ∙ c.loop-item.invariant
+    sym (turn g.T.Named.name _ _ _ _ _ c.loop-item-test.true c.item-item.is c.name_number.ensures false (ne_eqb _ _ c.if-name_number-name.false)) ∙ c.loop-item.invariant
 
 pub returns : goal.returns
 returns g c = sym (at_drop_all (λ l. has_name g.T.Named.name l c.args.name) c.args.items.now c.loop-item.item-index c.loop-item-test.false) ∙ c.loop-item.invariant

@@ -5,17 +5,17 @@ use Rattle.sheet.proofs.Outcomes.{said_on}
 use Rattle.sheet.proofs.Steps.{step-bad, step-good, no_more}
 use Rattle.checker.proofs.names.functions_free.Goals as goal
 
-pub returns-in-err-function-free : goal.returns-in-err-function-free
-returns-in-err-function-free c =
-    let more : c.loop-i.i < length (held_by c.args.sheet.now).program.functions = omega (arith, c.function-count-i-end.ensures) in
-    said_on _ _ _ _ _ _ c.from-residual.ensures.1 c.in-err-function-free.ensures (λ k q e. sym c.loop-i.invariant ∙ step-bad (λ i _. function_free (held_by c.args.sheet.now) i) _ _ tt more k q e)
+pub returns-in_err-function_free : goal.returns-in_err-function_free
+returns-in_err-function_free c =
+    let more : c.loop-i.i < length (held_by c.args.sheet.now).program.functions = omega (arith, c.function_count-i-end.ensures) in
+    said_on _ _ _ _ _ _ c.from_residual.ensures.1 c.in_err-function_free.ensures (λ k q e. sym c.loop-i.invariant ∙ step-bad (λ i _. function_free (held_by c.args.sheet.now) i) _ _ tt more k q e)
 
 pub loop-i-preserved : goal.loop-i-preserved
 loop-i-preserved c =
-    let more : c.loop-i.i < length (held_by c.args.sheet.now).program.functions = omega (arith, c.function-count-i-end.ensures) in
-    step-good (λ i _. function_free (held_by c.args.sheet.now) i) _ _ tt more tt c.in-ok-function-free.ensures ∙ c.loop-i.invariant
+    let more : c.loop-i.i < length (held_by c.args.sheet.now).program.functions = omega (arith, c.function_count-i-end.ensures) in
+    step-good (λ i _. function_free (held_by c.args.sheet.now) i) _ _ tt more tt c.in_ok-function_free.ensures ∙ c.loop-i.invariant
 
 pub returns : goal.returns
 returns c =
-    let none : length (held_by c.args.sheet.now).program.functions ≤ c.loop-i.i = omega (arith, c.function-count-i-end.ensures) in
+    let none : length (held_by c.args.sheet.now).program.functions ≤ c.loop-i.i = omega (arith, c.function_count-i-end.ensures) in
     sym c.loop-i.invariant ∙ no_more (λ i _. function_free (held_by c.args.sheet.now) i) _ _ tt none

@@ -11,9 +11,9 @@ pub returns : goal.returns
 returns c =
     let D = held_by c.args.sheet.now in
     let n = c.args.n in
-    let is = sym c.node-at.ensures.same in
+    let is = sym c.node_at.ensures.same in
     record {
-      sized = c.node-at.ensures.sized;
+      sized = c.node_at.ensures.sized;
       parts = subst (λ (d : Node). PartsBelow D.program n d) is (c.requires.falling n c.requires.known);
       types = λ Γ. type-step D c.requires.falling n c.requires.known Γ ∙ ap (type_node (type_of D Γ) D.program Γ (offset_of D n)) is;
       calls = λ Γ k. call_step D c.requires.falling n Γ k ∙ ap (call_node (type_of D Γ) D.program k (offset_of D n)) is;

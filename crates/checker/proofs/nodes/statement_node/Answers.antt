@@ -11,9 +11,9 @@ pub returns : goal.returns
 returns c =
     let D = held_by c.args.sheet.now in
     let n = c.args.n in
-    let is = sym c.node-at.ensures.same in
+    let is = sym c.node_at.ensures.same in
     record {
-      sized = c.node-at.ensures.sized;
+      sized = c.node_at.ensures.sized;
       parts = subst (λ (d : Node). PartsBelow D.program n d) is (c.requires.falling n c.requires.known);
       after = λ owed last Γ. after-step D c.requires.falling n c.requires.known owed last Γ ∙ ap (after_node (type_of D Γ) (call_of D Γ) (after_of D owed false Γ) (λ ns. after_all (after_of D owed) ns Γ) D owed last Γ (offset_of D n)) is;
       ends = ends-step D c.requires.falling n c.requires.known ∙ ap (ends_node (ends_of D.program) D.program) is;

@@ -10,4 +10,4 @@ step u n v l some e =
     ap (λ x. levels u (n - 1) (set v (n - 1) x)) e ∙ sym (ap (λ m. levels u m v) one)
 
 pub loop-n-preserved : goal.loop-n-preserved
-loop-n-preserved c = (omega arith, step _ _ _ _ c.loop-n-test.true c.level-of.ensures ∙ c.loop-n.invariant.1)
+loop-n-preserved c = (omega arith, step _ _ _ _ c.loop-n-test.true c.level_of.ensures ∙ c.loop-n.invariant.1)

@@ -12,36 +12,36 @@ pub rules-requires : goal.rules-requires
 unfolding held_by
 rules-requires c =
     let small : length c.args.bytes.now < 2 ^ 64 = search rules in
-    grants c.args.bytes.now _ small c.in-ok-sheet.ensures
+    grants c.args.bytes.now _ small c.in_ok-sheet.ensures
 
-pub returns-in-err-main : goal.returns-in-err-main
+pub returns-in_err-main : goal.returns-in_err-main
 unfolding held_by
-returns-in-err-main c =
+returns-in_err-main c =
     record {
-      said = said_on _ _ _ _ _ _ c.from-residual-in-err-main.ensures.1 c.in-err-main.ensures.said (λ k q e. then_good (λ D. then (rules_held D) (λ _. good D)) c.in-ok-sheet.ensures ∙ then_bad _ e);
+      said = said_on _ _ _ _ _ _ c.from_residual-in_err-main.ensures.1 c.in_err-main.ensures.said (λ k q e. then_good (λ D. then (rules_held D) (λ _. good D)) c.in_ok-sheet.ensures ∙ then_bad _ e);
       exact = accepts_exactly;
       refuses = refuses_exactly;
       main = search rules;
     }
 
-pub invariant-of-result : goal.invariant-of-result
+pub invariant_of-result : goal.invariant_of-result
 unfolding held_by
-invariant-of-result c = (∣ then_good (λ D. then (rules_held D) (λ _. good D)) c.in-ok-sheet.ensures ∙ then_good _ c.in-ok-main.ensures.said ∣₁, tt)
+invariant_of-result c = record { accepted = ∣ then_good (λ D. then (rules_held D) (λ _. good D)) c.in_ok-sheet.ensures ∙ then_good _ c.in_ok-main.ensures.said ∣₁ }
 
 pub returns : goal.returns
 unfolding held_by
 returns c =
     record {
-      said = then_good (λ D. then (rules_held D) (λ _. good D)) c.in-ok-sheet.ensures ∙ then_good _ c.in-ok-main.ensures.said;
+      said = then_good (λ D. then (rules_held D) (λ _. good D)) c.in_ok-sheet.ensures ∙ then_good _ c.in_ok-main.ensures.said;
       exact = accepts_exactly;
       refuses = refuses_exactly;
-      main = c.in-ok-main.ensures.main;
+      main = c.in_ok-main.ensures.main;
     }
 
-pub returns-in-err-sheet : goal.returns-in-err-sheet
-returns-in-err-sheet c =
+pub returns-in_err-sheet : goal.returns-in_err-sheet
+returns-in_err-sheet c =
     record {
-      said = said_on _ _ _ _ _ _ c.from-residual.ensures.1 c.in-err-sheet.ensures (λ k q e. then_bad _ e);
+      said = said_on _ _ _ _ _ _ c.from_residual.ensures.1 c.in_err-sheet.ensures (λ k q e. then_bad _ e);
       exact = accepts_exactly;
       refuses = refuses_exactly;
       main = search rules;

@@ -7,9 +7,9 @@ pub bounds-self-n : goal.bounds-self-n
 unfolding scope_of
 bounds-self-n c = omega (arith, scope_length c.args.self.names c.args.self.len)
 
-pub invariant-of-self : goal.invariant-of-self
+pub invariant_of-self : goal.invariant_of-self
 unfolding scope_of
-invariant-of-self c = (omega (arith, scope_length c.args.self.names c.args.self.len), tt)
+invariant_of-self c = record { fits = omega (arith, scope_length c.args.self.names c.args.self.len) }
 
 pub returns : goal.returns
 unfolding scope_of

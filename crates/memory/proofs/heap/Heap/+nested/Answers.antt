@@ -10,8 +10,8 @@ use Rattle.memory.specs.Heaps.{cells_in, HoldsStore}
 use Rattle.memory.proofs.Nests.{first, others, Filling, filling_none, filling_more, filling_all, more-fits, cells_last, split-first, opened_length, opened_held, nested_one, nested_whole}
 use Rattle.memory.proofs.heap.Heap.+nested.Goals as goal
 
-pub returns-in-default : goal.returns-in-default
-returns-in-default t c =
+pub returns-in_default : goal.returns-in_default
+returns-in_default t c =
     let e : c.args.lengths.now ≡ [] = nil_from_length c.args.lengths.now (omega (arith, ltb-true)) in
     record {
       cells = λ s ty h. subst (λ (ys : List ℕ). HoldsStore c.args.self.now (nested ty ys s)) (sym e) h;
