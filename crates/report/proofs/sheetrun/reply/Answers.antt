@@ -13,10 +13,10 @@ cut bs m n e = ap (λ k. reply_of (checked_at (take k bs))) (sub-zero m ∙ e)
 pub returns-in-Ok : goal.returns-in-Ok
 returns-in-Ok c =
     retold string_bytes c.accepted.result _ _ c.accepted.ensures
-    (ap reply_of (sym c.in-Ok.ensures.said) ∙ cut c.args.input.now _ _ c.sheet-length-end.ensures.value)
+    (ap reply_of (sym c.in-Ok.ensures.said) ∙ cut c.args.input.now _ _ c.sheet_length-end.ensures.value)
 
 pub returns-in-Err : goal.returns-in-Err
 returns-in-Err c =
     retold string_bytes c.refused.result _ _
     (refusal_told string_bytes c.refused.result c.in-Err.refusal checked_of _ c.in-Err.ensures.said c.refused.ensures)
-    (cut c.args.input.now _ _ c.sheet-length-end.ensures.value)
+    (cut c.args.input.now _ _ c.sheet_length-end.ensures.value)
