@@ -1,11 +1,11 @@
 -- The steps of a function's body.
-use Rattle.std.proofs.Common.{◌≡◌, ℕ, suc, ◌<◌, ◌≤◌, Bool, true, false, ◌||◌, List, [], ◌∷◌, map, length, sym, refl, ap, ◌∙◌, arith}
+use Rattle.std.proofs.Common.{◌≡◌, ℕ, ◌<◌, ◌≤◌, Bool, true, false, ◌||◌, List, [], ◌∷◌, map, length, sym, refl, ap, ◌∙◌, arith}
 use Rattle.xi.specs.declared.node.Ty.{Ty}
 use Rattle.xi.specs.declared.program.Function.{Function}
 use Rattle.xi.specs.declared.program.Parameter.{Parameter}
 use Rattle.xi.specs.declared.rule.Rule.TheVariants.{Return}
 use Rattle.xi.specs.Program.{items_of}
-use Rattle.sheet.specs.Outcome.{Outcome, good, bad, then, held}
+use Rattle.sheet.specs.Outcome.{good, then, held}
 use Rattle.sheet.specs.Sheets.{Decoded}
 use Rattle.sheet.proofs.Outcomes.{then_good}
 use Rattle.xi.specs.Typing.{Scope, binding, pushed, numbers_of}

@@ -1,5 +1,5 @@
 -- The last entry of a block.
-use Rattle.std.proofs.Common.{◌≡◌, ℕ, suc, ◌-◌, ◌<◌, ◌≤◌, Bool, true, false, eqb, List, [], ◌∷◌, length, get_or, sym, refl, ap, ◌∙◌, arith}
+use Rattle.std.proofs.Common.{◌≡◌, ℕ, suc, ◌-◌, ◌<◌, ◌≤◌, Bool, false, List, [], ◌∷◌, length, get_or, sym, refl, ap, ◌∙◌, arith}
 use Rattle.checker.specs.Walk.{ends_last}
 
 pub ends_none : (go : ℕ → Bool) (xs : List ℕ) → length xs ≤ 0 → ends_last go xs ≡ false

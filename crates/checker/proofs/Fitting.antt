@@ -3,8 +3,7 @@ use Rattle.std.proofs.Common.{◌≡◌, ℕ, ◌+◌, ◌<◌, ◌≤◌, Bool,
 use Rattle.std.proofs.lemmas.List.{at_drop_more, at_drop_all, drop-drop}
 use Rattle.xi.specs.declared.rule.Rule.{Rule}
 use Rattle.sheet.specs.Outcome.{Outcome, good, bad, then}
-use Rattle.sheet.proofs.Outcomes.{then_good, then_bad}
-use Rattle.checker.specs.Walk.{types_each, agree, fitting}
+use Rattle.checker.specs.Walk.{types_each, agree}
 use Rattle.checker.specs.Wants.{begins}
 
 agree_front : (t : ℕ) (ts ws : List ℕ) → agree (t ∷ ts) ws ≡ (begins t ws && agree ts (drop 1 ws))

@@ -1,26 +1,22 @@
 -- What reading grants.
-use Rattle.std.proofs.Common.{◌≡◌, ℕ, zero, suc, ◌+◌, ◌*◌, ◌^◌, ◌<◌, ◌≤◌, Bool, true, false, ◌&&◌, eqb, ltb, leb, List, [], ◌∷◌, ◌++◌, length, get_or, ℤ, sym, refl, ap, ◌∙◌, subst, arith, length-append}
+use Rattle.std.proofs.Common.{◌≡◌, ℕ, zero, suc, ◌+◌, ◌*◌, ◌^◌, ◌<◌, ◌≤◌, ◌&&◌, eqb, ltb, leb, List, [], ◌∷◌, ◌++◌, length, get_or, sym, refl, ap, ◌∙◌, subst, arith}
 use Rattle.std.proofs.lemmas.List.{length_push}
 use Rattle.std.proofs.lemmas.Bool.{leb-true, ltb-true}
-use Rattle.xi.specs.declared.node.Node.{Node}
 use Rattle.xi.specs.declared.node.Node.TheVariants.{Discard}
 use Rattle.xi.specs.declared.node.Ty.{Ty}
-use Rattle.xi.specs.declared.program.GlobalVariable.{GlobalVariable}
 use Rattle.xi.specs.declared.program.Function.{Function}
 use Rattle.xi.specs.declared.program.Parameter.{Parameter}
 use Rattle.xi.specs.declared.rule.Rule.TheVariants.{Range, Bytes}
-use Rattle.xi.specs.Program.{Program}
-use Rattle.sheet.specs.Outcome.{Outcome, good, bad, then, held, runs}
-use Rattle.sheet.specs.Fields.{pair, signed_at, span_at, byte_at, count_at, part_at, item_of, items_at}
+use Rattle.sheet.specs.Outcome.{Outcome, good, held, runs}
+use Rattle.sheet.specs.Fields.{pair, signed_at, span_at, byte_at, count_at, item_of, items_at}
 use Rattle.sheet.specs.Names.{names_at}
 use Rattle.sheet.specs.Nodes.{node_reads}
 use Rattle.sheet.specs.Globals.{global_reads}
 use Rattle.sheet.specs.Functions.{FunctionList, listed, parameter_item, result_item, parameters_of, results_of, function_of, function_item, functions_at}
 use Rattle.sheet.specs.Sheets.{Decoded, decoded_with, head_at, decoded_at}
-use Rattle.xi.specs.Tree.{node_at}
-use Rattle.checker.specs.Trees.{no_function, function_at}
-use Rattle.checker.specs.Facts.{Sized, FunctionSized, Granted}
-use Rattle.checker.proofs.Opens.{never, same_good, then_opens, held_opens, cond_opens, and_left, and_right, runs-keep, Each, each_push, each_get, each_map}
+use Rattle.checker.specs.Trees.{no_function}
+use Rattle.checker.specs.Facts.{Sized, Granted}
+use Rattle.checker.proofs.Opens.{same_good, then_opens, held_opens, cond_opens, and_left, and_right, runs-keep, Each, each_push, each_get, each_map}
 use Rattle.checker.proofs.NodeSizes.{read-fit}
 
 -- items of one size: where they end, and what holds of each that is read

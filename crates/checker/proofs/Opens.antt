@@ -1,5 +1,5 @@
 -- What a good outcome tells of its steps.
-use Rattle.std.proofs.Common.{◌≡◌, ℕ, zero, suc, ◌+◌, Bool, true, false, cond, ◌&&◌, List, [], ◌∷◌, ◌++◌, get_or, sym, refl, ap, ◌∙◌, subst, arith}
+use Rattle.std.proofs.Common.{◌≡◌, ℕ, zero, suc, ◌+◌, Bool, true, false, cond, ◌&&◌, List, [], ◌∷◌, ◌++◌, get_or, refl, subst, arith}
 use Rattle.xi.specs.declared.rule.Rule.{Rule}
 use Rattle.sheet.specs.Outcome.{Outcome, good, bad, then, held, runs}
 

@@ -1,5 +1,5 @@
 -- What an outcome has to do with tests in order: `Gives o ts x` says that o is the first broken of ts, and x where all hold.
-use Rattle.std.proofs.Common.{◌≡◌, ℕ, zero, suc, ◌+◌, Bool, true, false, List, [], ◌∷◌, ◌++◌, map, sym, refl, ap, ◌∙◌}
+use Rattle.std.proofs.Common.{◌≡◌, ℕ, Bool, true, false, List, [], ◌∷◌, ◌++◌, map, sym, refl, ap, ◌∙◌}
 use mathlib.Core.Option.{Option, none, some}
 use Rattle.xi.specs.declared.rule.Rule.{Rule}
 use Rattle.xi.specs.declared.rule.Rule.TheVariants.{«Type» as TypeRule}

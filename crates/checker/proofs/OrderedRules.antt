@@ -8,12 +8,12 @@ use Rattle.sheet.specs.Sheets.{Decoded}
 use Rattle.xi.specs.Tree.{node_at, Part}
 use Rattle.xi.specs.Typing.{pushed, parameters_of, results_of}
 use Rattle.checker.specs.declared.mark.Mark.{Mark}
-use Rattle.checker.specs.declared.mark.Mark.TheVariants.{Free, PartOf, Body}
-use Rattle.checker.specs.Trees.{function_at, parts_in, claimed_all, parts_claimed, nodes_claimed, body_claimed, bodies_claimed, all_used, levels, all_shallow, levels_held, tree_of}
-use Rattle.checker.specs.Checked.{global_free, globals_free, function_free, functions_free, parameter_free, parameters_free_in, parameters_free_of, parameters_free, main_held, body_held, bodies_held, names_held, rules_held}
-use Rattle.checker.specs.Tests.{Test, test, first_broken, step_tests, steps_lead, claim_tests, claim_marks, node_tests, node_marks, body_tests, body_marks, part_marks, all_marks, used_tests, shallow_tests, stays, tree_tests, global_tests, function_tests, parameter_tests, parameters_tests, name_tests, function_body_tests, tests_of, AllHold, FirstBroken}
+use Rattle.checker.specs.declared.mark.Mark.TheVariants.{Free, PartOf}
+use Rattle.checker.specs.Trees.{function_at, parts_in, claimed_all, parts_claimed, body_claimed, tree_of}
+use Rattle.checker.specs.Checked.{bodies_held, names_held, rules_held}
+use Rattle.checker.specs.Tests.{Test, test, first_broken, step_tests, steps_lead, claim_tests, claim_marks, node_tests, node_marks, body_tests, body_marks, part_marks, used_tests, shallow_tests, stays, tree_tests, global_tests, function_tests, parameter_tests, parameters_tests, name_tests, function_body_tests, tests_of, AllHold, FirstBroken}
 use Rattle.checker.specs.Exact.{RefusesFirst, AcceptsPassing}
-use Rattle.checker.proofs.Ordered.{Gives, gives_good, gives-held, gives_then, gives-test, gives_value, gives-map}
+use Rattle.checker.proofs.Ordered.{Gives, gives_good, gives-held, gives_then, gives-test}
 use Rattle.checker.proofs.OrderedStatements.{statement_ordered}
 
 steps_given : {S : Type 0} (go : ℕ → S → Outcome S) (tests : ℕ → S → List Test) (next : ℕ → S → S) → ((i : ℕ) (s : S) → Gives (go i s) (tests i s) (next i s)) → (n i : ℕ) (s : S) → Gives (runs go n i s) (step_tests tests next n i s) (steps_lead next n i s)

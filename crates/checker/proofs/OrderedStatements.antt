@@ -1,17 +1,17 @@
 -- The scopes after statements, as the first broken of their tests.
-use Rattle.std.proofs.Common.{◌≡◌, ℕ, zero, suc, ◌+◌, ◌-◌, Bool, true, false, not, ◌&&◌, eqb, ltb, leb, List, [], ◌∷◌, ◌++◌, map, length, replicate, sym, refl, ap, ◌∙◌}
+use Rattle.std.proofs.Common.{ℕ, zero, suc, Bool, false, List, [], ◌∷◌, map, length}
 use Rattle.xi.specs.declared.node.Node.{Node}
 use Rattle.xi.specs.declared.node.Node.TheVariants.{Number, Truth, Text, Variable, Element, Length, Unary, Binary, Constructor, Call, LibraryCall}
 use Rattle.xi.specs.declared.node.Node.TheVariants.{Declare, DeclareValue, DeclareCall, Assign, AssignElement, If, IfElse, While, Return, CallStatement, Target, Discard, Block}
-use Rattle.xi.specs.declared.rule.Rule.TheVariants.{Range, Tree as TreeRule, Unknown, Taken, «Type» as TypeRule, Count, Return as ReturnRule}
+use Rattle.xi.specs.declared.rule.Rule.TheVariants.{Range, Unknown, Taken, «Type» as TypeRule, Count, Return as ReturnRule}
 use Rattle.xi.specs.Program.{Program}
-use Rattle.sheet.specs.Outcome.{Outcome, good, bad, then, held}
+use Rattle.sheet.specs.Outcome.{Outcome}
 use Rattle.sheet.specs.Sheets.{Decoded}
 use Rattle.xi.specs.Tree.{node_at, entries_of}
 use Rattle.xi.specs.Typing.{Binding, binding, Scope, pushed, variable_type, target_bindings}
 use Rattle.checker.specs.Trees.{offset_of}
-use Rattle.checker.specs.Walk.{is_empty, is_some, known, agree, fitting, targets_fit, declared, declared_all, targets_declared, after_all, after_node, after_at, after_of, type_of, call_of}
-use Rattle.checker.specs.Tests.{Test, test, first_broken, value_or, or_else, each, declaration_tests, declarations_tests, targets_tests, block_tests, statement_tests, statement_at, tests_of_statement, tests_of_expression, tests_of_call}
+use Rattle.checker.specs.Walk.{is_empty, agree, fitting, declared, declared_all, targets_declared, after_all, after_node, after_at, after_of, type_of, call_of}
+use Rattle.checker.specs.Tests.{Test, value_or, each, declaration_tests, declarations_tests, targets_tests, block_tests, statement_tests, statement_at, tests_of_statement, tests_of_expression, tests_of_call}
 use Rattle.checker.proofs.Ordered.{Gives, gives_good, gives-held, gives_then, gives-test, gives-known, gives_value, gives-map}
 use Rattle.checker.proofs.OrderedTypes.{gives-never, fitting-given, expression_ordered, call_ordered}
 

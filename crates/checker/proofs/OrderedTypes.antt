@@ -1,5 +1,5 @@
 -- The types of expressions, as the first broken of their tests.
-use Rattle.std.proofs.Common.{◌≡◌, ℕ, zero, suc, ◌+◌, ◌-◌, Bool, true, false, not, ◌&&◌, eqb, leb, List, [], ◌∷◌, ◌++◌, map, length, replicate, sym, refl, ap, ◌∙◌}
+use Rattle.std.proofs.Common.{ℕ, zero, suc, false, List, [], ◌∷◌, map, refl}
 use Rattle.xi.specs.declared.node.Node.{Node}
 use Rattle.xi.specs.declared.node.Node.TheVariants.{Number, Truth, Text, Variable, Element, Length, Unary, Binary, Constructor, Call, LibraryCall}
 use Rattle.xi.specs.declared.node.Node.TheVariants.{Declare, DeclareValue, DeclareCall, Assign, AssignElement, If, IfElse, While, Return, CallStatement, Target, Discard, Block}
@@ -9,13 +9,13 @@ use Rattle.xi.specs.declared.node.Operator.{Operator}
 use Rattle.xi.specs.declared.node.Operator.TheVariants.{Add, Subtract, Multiply, Divide, Remainder, Less, LessEqual, Greater, GreaterEqual, Equal, NotEqual, And, Or}
 use Rattle.xi.specs.declared.rule.Rule.TheVariants.{Tree as TreeRule, Unknown, «Type» as TypeRule, Count}
 use Rattle.xi.specs.Program.{Program}
-use Rattle.sheet.specs.Outcome.{Outcome, good, bad, then, held}
+use Rattle.sheet.specs.Outcome.{Outcome, bad, held}
 use Rattle.sheet.specs.Sheets.{Decoded}
 use Rattle.xi.specs.Tree.{node_at, entries_of}
 use Rattle.xi.specs.Typing.{Scope, variable_type, function_named, parameters_of, results_of, types_of, library_takes, library_gives}
 use Rattle.checker.specs.Trees.{offset_of, no_function}
-use Rattle.checker.specs.Walk.{known, agree, fitting, types_each, operands, unary_gives, operator_gives, called, call_node, first_of, type_node, type_at, type_of, call_of}
-use Rattle.checker.specs.Tests.{Test, test, first_broken, value_or, or_else, each, unary_fits, operator_fits, called_tests, call_tests, expression_tests, expression_at, tests_of_expression, tests_of_call}
+use Rattle.checker.specs.Walk.{agree, fitting, unary_gives, operator_gives, called, call_node, first_of, type_node, type_at, type_of, call_of}
+use Rattle.checker.specs.Tests.{Test, test, value_or, each, unary_fits, operator_fits, called_tests, call_tests, expression_tests, expression_at, tests_of_expression, tests_of_call}
 use Rattle.checker.proofs.Ordered.{Gives, gives_good, gives-held, gives_then, gives-test, gives-known, gives_found, gives_value, gives-operands, gives-map, gives-each}
 
 -- a refusal of the tree is a test that never holds

@@ -1,5 +1,5 @@
 -- Where a refusal comes from: the reading of a sheet, or its first test that fails.
-use Rattle.std.proofs.Common.{◌≡◌, ℕ, ◌⊎◌, List, sym, refl, ap, ◌∙◌, inl, inr, ⊎_elim}
+use Rattle.std.proofs.Common.{◌≡◌, ℕ, ◌⊎◌, List, sym, refl, ◌∙◌, inl, inr, ⊎_elim}
 use Rattle.xi.specs.declared.rule.Rule.{Rule}
 use Rattle.sheet.specs.Outcome.{Outcome, good, bad, then}
 use Rattle.sheet.specs.Sheets.{Decoded, decoded_at}

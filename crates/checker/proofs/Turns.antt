@@ -1,5 +1,5 @@
 -- A turn of a loop over a list, where F takes the items one after another by go.
-use Rattle.std.proofs.Common.{◌≡◌, ℕ, ◌+◌, ◌<◌, ◌≤◌, List, [], ◌∷◌, length, get_or, drop, sym, refl, ap, ◌∙◌}
+use Rattle.std.proofs.Common.{◌≡◌, ℕ, ◌+◌, ◌<◌, ◌≤◌, List, [], ◌∷◌, length, get_or, drop, sym, ◌∙◌}
 use Rattle.std.proofs.lemmas.List.{at_drop_more, at_drop_all}
 use Rattle.xi.specs.declared.rule.Rule.{Rule}
 use Rattle.sheet.specs.Outcome.{Outcome, good, bad, then}

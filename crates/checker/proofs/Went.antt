@@ -1,13 +1,13 @@
 -- What the walk that went well says of a node, whatever its place.
-use Rattle.std.proofs.Common.{◌≡◌, ℕ, ◌-◌, Bool, true, false, ◌&&◌, eqb, leb, List, [], ◌∷◌, length, replicate, sym, ap, ◌∙◌, arith}
+use Rattle.std.proofs.Common.{◌≡◌, ℕ, Bool, true, false, eqb, List, [], ◌∷◌, length, replicate, sym, ap, ◌∙◌, arith}
 use Rattle.std.proofs.lemmas.Bool.{eqb-true, false≢true}
 use Rattle.xi.specs.declared.node.Node.{Node}
 use Rattle.xi.specs.declared.node.Node.TheVariants.{Number, Truth, Text, Variable, Element, Length, Unary, Binary, Constructor, Call, LibraryCall}
 use Rattle.xi.specs.declared.node.Node.TheVariants.{Declare, DeclareValue, DeclareCall, Assign, AssignElement, If, IfElse, While, Return, CallStatement, Target, Discard, Block}
-use Rattle.xi.specs.declared.rule.Rule.TheVariants.{«Type» as TypeRule, Count, Unknown, Return as ReturnRule}
+use Rattle.xi.specs.declared.rule.Rule.TheVariants.{«Type» as TypeRule, Count, Unknown}
 use Rattle.xi.specs.Program.{Program}
 use Rattle.xi.specs.Tree.{entries_of, Sort, value_sort, call_sort, statement_sort, return_sort, block_sort, target_sort, sort_of, Place, expression_place, call_place, statement_place, target_place, suits}
-use Rattle.xi.specs.Typing.{Scope, pushed, binding, Tables, named_results, call_gives, gives_of, function_named, parameters_of, results_of, types_of, library_takes, library_gives, declared_by, variable_type}
+use Rattle.xi.specs.Typing.{Scope, pushed, binding, Tables, named_results, call_gives, gives_of, function_named, parameters_of, results_of, types_of, library_takes, library_gives, declared_by}
 use Rattle.sheet.specs.Outcome.{Outcome, good, then}
 use Rattle.sheet.specs.Sheets.{Decoded}
 use Rattle.checker.specs.Walk.{known, types_each, agree, fitting, called, call_node, first_of, type_node, type_of, call_of, targets_fit, after_node, after_of, argued, assigned, element_assigned, returned}

@@ -1,5 +1,5 @@
 -- Which sheets are accepted: reading, the tree, the names of globals, functions and parameters, `main`, and the bodies, in this order.
-use Rattle.std.specs.Prelude.{ℕ, ◌+◌, ◌*◌, Bool, true, false, cond, not, ◌&&◌, ◌||◌, List, [], ◌∷◌, map, length, get_or, take, None, codes, ◌==◌, slice_index, slice_index_or}
+use Rattle.std.specs.Prelude.{ℕ, ◌+◌, ◌*◌, Bool, false, cond, not, ◌&&◌, ◌||◌, List, [], ◌∷◌, length, get_or, take, None, codes, ◌==◌, slice_index, slice_index_or}
 use Rattle.std.proofs.Math.Option.{Option, none, some}
 use Rattle.std.specs.Str.{bytes_eq}
 use Rattle.xi.specs.declared.program.GlobalVariable.{GlobalVariable}
@@ -7,11 +7,11 @@ use Rattle.xi.specs.declared.program.Parameter.{Parameter}
 use Rattle.xi.specs.declared.program.Function.{Function}
 use Rattle.xi.specs.declared.rule.Rule.TheVariants.{Taken, Return, Main}
 use Rattle.xi.specs.Program.{Program, items_of}
-use Rattle.sheet.specs.Outcome.{Outcome, good, bad, then, held, runs}
+use Rattle.sheet.specs.Outcome.{Outcome, good, then, held, runs}
 use Rattle.sheet.specs.Sheets.{Decoded, decoded_at}
-use Rattle.xi.specs.Typing.{Binding, Scope, pushed, global_type, parameters_of, results_of, types_of}
+use Rattle.xi.specs.Typing.{pushed, parameters_of, results_of, types_of}
 use Rattle.checker.specs.Trees.{offset_of, function_at, tree_of}
-use Rattle.checker.specs.Walk.{is_some, is_empty, after_of, ends_of}
+use Rattle.checker.specs.Walk.{is_empty, after_of, ends_of}
 
 -- one of the items has the name x
 abbrev pub has_name : {A : Type 0} → (A → ℕ) → List A → ℕ → Bool

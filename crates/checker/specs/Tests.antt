@@ -11,7 +11,6 @@ use Rattle.xi.specs.declared.node.Operator.{Operator}
 use Rattle.xi.specs.declared.node.Operator.TheVariants.{Add, Subtract, Multiply, Divide, Remainder, Less, LessEqual, Greater, GreaterEqual, Equal, NotEqual, And, Or}
 use Rattle.xi.specs.declared.program.GlobalVariable.{GlobalVariable}
 use Rattle.xi.specs.declared.program.Parameter.{Parameter}
-use Rattle.xi.specs.declared.program.Function.{Function}
 use Rattle.xi.specs.declared.rule.Rule.{Rule}
 use Rattle.xi.specs.declared.rule.Rule.TheVariants.{Range, Tree as TreeRule, Unknown, Taken, «Type» as TypeRule, Count, Return as ReturnRule, Main}
 use Rattle.xi.specs.Program.{Program, items_of}
@@ -22,7 +21,7 @@ use Rattle.xi.specs.Typing.{Binding, binding, Scope, pushed, variable_type, func
 use Rattle.checker.specs.declared.mark.Mark.{Mark}
 use Rattle.checker.specs.declared.mark.Mark.TheVariants.{Free, PartOf, Body}
 use Rattle.checker.specs.Trees.{offset_of, no_function, function_at, parts_in, is_free, is_block, levels}
-use Rattle.checker.specs.Walk.{is_some, is_empty, agree, bindings_have, targets_fit, type_at, type_of, call_of, after_at, ends_of}
+use Rattle.checker.specs.Walk.{is_some, is_empty, agree, targets_fit, type_at, type_of, call_of, after_at, ends_of}
 use Rattle.checker.specs.Checked.{has_name, no_global, no_parameter, global_name, function_name, parameter_name, main_fits, main_in}
 
 pub record Test : Type 0 where

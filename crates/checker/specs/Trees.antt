@@ -6,7 +6,7 @@ use Rattle.xi.specs.declared.node.Node.TheVariants.{Declare, DeclareValue, Decla
 use Rattle.xi.specs.declared.program.Function.{Function}
 use Rattle.xi.specs.declared.rule.Rule.TheVariants.{Tree as TreeRule}
 use Rattle.xi.specs.Program.{Program}
-use Rattle.sheet.specs.Outcome.{Outcome, good, bad, then, held, runs}
+use Rattle.sheet.specs.Outcome.{Outcome, good, then, held, runs}
 use Rattle.sheet.specs.Sheets.{Decoded}
 use Rattle.checker.specs.declared.mark.Mark.{Mark}
 use Rattle.checker.specs.declared.mark.Mark.TheVariants.{Free, PartOf, Body}

@@ -1,5 +1,5 @@
 -- Names and types: the walk through a function's body, each node's tests in their order.
-use Rattle.std.specs.Prelude.{ℕ, zero, suc, ◌+◌, ◌-◌, ◌*◌, Bool, true, false, not, ◌&&◌, ◌||◌, List, [], ◌∷◌, map, length, replicate, ◌==◌, nat_le, nat_lt}
+use Rattle.std.specs.Prelude.{ℕ, zero, suc, ◌+◌, ◌-◌, Bool, true, false, not, ◌&&◌, List, [], ◌∷◌, length, replicate, ◌==◌, nat_le, nat_lt}
 use Rattle.std.proofs.Math.Option.{Option, none, some}
 use Rattle.xi.specs.declared.node.Node.{Node}
 use Rattle.xi.specs.declared.node.Node.TheVariants.{Number, Truth, Text, Variable, Element, Length, Unary, Binary, Constructor, Call, LibraryCall}
@@ -8,9 +8,7 @@ use Rattle.xi.specs.declared.node.UnaryOperator.{UnaryOperator}
 use Rattle.xi.specs.declared.node.UnaryOperator.TheVariants.{Minus, Not}
 use Rattle.xi.specs.declared.node.Operator.{Operator}
 use Rattle.xi.specs.declared.node.Operator.TheVariants.{Add, Subtract, Multiply, Divide, Remainder, Less, LessEqual, Greater, GreaterEqual, Equal, NotEqual, And, Or}
-use Rattle.xi.specs.declared.node.LibraryFunction.{LibraryFunction}
 use Rattle.xi.specs.declared.node.Ty.{Ty}
-use Rattle.xi.specs.declared.program.Function.{Function}
 use Rattle.xi.specs.declared.rule.Rule.{Rule}
 use Rattle.xi.specs.declared.rule.Rule.TheVariants.{Range, Tree as TreeRule, Unknown, Taken, «Type» as TypeRule, Count, Return as ReturnRule}
 use Rattle.xi.specs.Program.{Program}

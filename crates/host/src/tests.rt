@@ -83,7 +83,7 @@ fn writes(rt: HostRuntime) {
     assert!(rt; host.put(LAST_CHARACTER));
     assert!(rt; !host.put(65));
     assert_eq!(rt; host.free(), 0);
-    assert!(rt; host.output() == [LAST_CHARACTER]);
+    assert!(rt; host.output() == [LAST_CHARACTER].as_slice());
     let mut closed = ByteHost::new(b"", &mut []);
     assert!(rt; !closed.put(65));
 }

@@ -1,5 +1,5 @@
 -- Whole runs: never stuck, always typed.
-use Rattle.std.proofs.Common.{◌≡◌, ℕ, zero, suc, ◌<◌, ◌≤◌, true, false, cond, ◌⊎◌, List, [], ◌∷◌, length, get_or, ℤ, Some, None, codes, Option as RustOption, sym, refl, ◌∙◌, subst, inl, inr, not-suc-le-zero, arith}
+use Rattle.std.proofs.Common.{◌≡◌, ℕ, zero, suc, ◌<◌, ◌≤◌, true, false, cond, ◌⊎◌, List, [], ◌∷◌, get_or, ℤ, Some, None, codes, Option as RustOption, sym, refl, ◌∙◌, subst, inl, inr, not-suc-le-zero, arith}
 use mathlib.Core.Option.{Option, none, some, none-ne-some, some-injective}
 use lib.ListN.{get_elem?}
 use Rattle.std.specs.Str.{bytes_eq}
@@ -9,7 +9,7 @@ use Rattle.xi.specs.Program.{Program}
 use Rattle.xi.specs.Tree.{Each, BodyStands}
 use Rattle.xi.specs.Typing.{Binding, Scope, pushed, Tables, parameters_of}
 use Rattle.xi.specs.Obeys.{FirstFits, main_in, main_of, FunctionObeys, MainObeys, Obeys}
-use Rattle.semantics.specs.State.{Value, int, bool, array, Slot, Variable, Store, Task, Core, core, Limits, quiet, wrote, took, Move, element_type}
+use Rattle.semantics.specs.State.{Value, int, bool, array, Slot, Variable, Store, Task, Core, Limits, quiet, wrote, took, Move, element_type}
 use Rattle.semantics.specs.Runs.{given_first, given_firsts, Config, Outcome, done, stopped, broken, moved, advance, free, settle, paid, turn, run, after, start, Setup, limits, waits, unless_ended, first_store, arguments, opening}
 use Rattle.semantics.specs.Laws.{SpentOf}
 use Rattle.semantics.specs.Sound.{Use, header, element, ArrayAt, Has, has_int, has_bool, has_array, Holds, unset, holds, Cell, is_header, is_element, no_cells, more_cells, no_values, Variables, no_variables, more_variables, Globals, no_globals, more_globals}

@@ -3,7 +3,7 @@ use Rattle.std.proofs.Common.{◌≡◌, ℕ, zero, suc, ◌+◌, ◌<◌, ◌�
 use mathlib.Core.Option.{Option, none, some, none-ne-some}
 use Rattle.xi.specs.Program.{Program}
 use Rattle.xi.specs.Tree.{node_at}
-use Rattle.semantics.specs.State.{Value, Variable, Store, Task, begin, finish, leave, back, core, Host, Limits, Move, go, finished, stop, stuck}
+use Rattle.semantics.specs.State.{Value, Variable, Store, Task, begin, finish, leave, back, Host, Limits, Move, go, finished, stop, stuck}
 use Rattle.semantics.specs.Rules.{unwind, finishes, does, next, step}
 use Rattle.semantics.specs.Runs.{Config, Outcome, moved, waits, weight, unless_ended, unless, advance, free, settle, paid, turn, run, after, start, limits}
 use Rattle.semantics.specs.Laws.{RestsAt, Rests, ComesToRest}

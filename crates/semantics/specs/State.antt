@@ -1,5 +1,5 @@
 -- Where a run stands: values, variables, cells, the tasks that are left, and the host.
-use Rattle.std.specs.Prelude.{ℕ, suc, ◌-◌, Bool, cond, List, [], ◌∷◌, ◌++◌, length, take, drop, set, ℤ, pos, ◌==◌, slice_set}
+use Rattle.std.specs.Prelude.{ℕ, suc, ◌-◌, Bool, cond, List, [], ◌∷◌, ◌++◌, length, take, drop, ℤ, pos, ◌==◌, slice_set}
 use Rattle.std.proofs.Math.Option.{Option, none, some}
 use Rattle.xi.specs.declared.program.GlobalVariable.{GlobalVariable}
 use Rattle.xi.specs.declared.stop.Stop.{Stop}

@@ -10,7 +10,7 @@ use Rattle.sheet.specs.Names.{names_at}
 use Rattle.sheet.specs.Nodes.{node_reads}
 use Rattle.sheet.specs.Globals.{global_reads}
 use Rattle.sheet.specs.Functions.{FunctionList, functions_at}
-use Rattle.sheet.specs.Sheets.{Decoded, decoded_with, head_at, decoded_at}
+use Rattle.sheet.specs.Sheets.{decoded_with, head_at, decoded_at}
 use Rattle.sheet.proofs.Outcomes.{then_good, then_bad, then-held, then_fails}
 
 abbrev pub constants_at : List ℕ → ℕ → Outcome (List ℤ × ℕ)

@@ -1,11 +1,11 @@
 -- One name more.
-use Rattle.std.proofs.Common.{◌≡◌, ℕ, ◌+◌, ◌<◌, ◌≤◌, Bool, true, false, not, ◌&&◌, ltb, leb, List, [], ◌∷◌, ◌++◌, length, sym, refl, ap, ◌∙◌, arith}
+use Rattle.std.proofs.Common.{◌≡◌, ℕ, ◌+◌, ◌<◌, ◌≤◌, true, false, ◌&&◌, ltb, leb, List, [], ◌∷◌, ◌++◌, length, sym, refl, ◌∙◌, arith}
 use Rattle.std.proofs.lemmas.Bool.Decides.{nat_tests}
 use Rattle.xi.specs.declared.rule.Rule.TheVariants.{Name, Range}
-use Rattle.sheet.specs.Outcome.{Outcome, good, bad, then, held}
+use Rattle.sheet.specs.Outcome.{good}
 use Rattle.sheet.specs.Fields.{text_at}
 use Rattle.sheet.specs.Names.{identifier_from, among, reserved, nameable, name_item}
-use Rattle.sheet.proofs.Outcomes.{then_good, then-held, then_fails}
+use Rattle.sheet.proofs.Outcomes.{then_good, then-held}
 
 module _ (bs : List ℕ) (ws : List (List ℕ)) (p : ℕ) (w : List ℕ) (text : text_at bs p ≡ good w) (some : 0 < length w) (few : length w ≤ 32) where
   sized : (ltb 0 (length w) && leb (length w) 32) ≡ true

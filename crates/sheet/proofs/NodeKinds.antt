@@ -1,5 +1,5 @@
 -- Kinds past those of the statements.
-use Rattle.std.proofs.Common.{◌≡◌, ℕ, ◌<◌, ◌≤◌, true, false, leb, List, ℤ, refl, arith}
+use Rattle.std.proofs.Common.{◌≡◌, ℕ, ◌<◌, false, leb, List, ℤ, refl, arith}
 use Rattle.std.proofs.lemmas.Bool.{lt-leb}
 use Rattle.sheet.specs.declared.nodes.RawNode.{RawNode}
 use Rattle.sheet.specs.Nodes.{node_of, target_or_block_of}

@@ -1,5 +1,5 @@
 -- Laws of outcomes.
-use Rattle.std.proofs.Common.{◌≡◌, ℕ, Bool, true, false, IsErrAnd, Ok, Err, Result, refl, ap}
+use Rattle.std.proofs.Common.{◌≡◌, ℕ, Bool, true, false, IsErrAnd, Ok, Err, Result, ap}
 use Rattle.xi.specs.declared.rule.Rule.{Rule}
 use Rattle.sheet.specs.declared.refusal.Refusal.{Refusal}
 use Rattle.sheet.specs.declared.refusal.Refusal.TheVariants.{Memory, Broken}

@@ -1,5 +1,5 @@
 -- A turn of a loop whose turns are the steps of a run.
-use Rattle.std.proofs.Common.{◌≡◌, ℕ, suc, ◌+◌, ◌-◌, ◌<◌, ◌≤◌, List, sym, refl, ap, ◌∙◌, arith}
+use Rattle.std.proofs.Common.{◌≡◌, ℕ, suc, ◌+◌, ◌-◌, ◌<◌, ◌≤◌, List, sym, ap, ◌∙◌, arith}
 use Rattle.xi.specs.declared.rule.Rule.{Rule}
 use Rattle.sheet.specs.Outcome.{Outcome, good, bad, runs}
 use Rattle.sheet.specs.Fields.{count_at, part_at}

@@ -1,11 +1,10 @@
 -- The functions of a sheet. A record has a name, a count of parameters, each with a name and a type, a count of results, each a type, and a body.
 use Rattle.std.specs.Prelude.{ℕ, ◌+◌, ◌*◌, ◌&&◌, List, [], ◌∷◌, ◌++◌, length, nat_le, nat_lt, slice_index}
-use Rattle.xi.specs.declared.node.Run.{Run}
 use Rattle.xi.specs.declared.node.Ty.{Ty}
 use Rattle.xi.specs.declared.program.Parameter.{Parameter}
 use Rattle.xi.specs.declared.program.Function.{Function}
 use Rattle.xi.specs.declared.rule.Rule.TheVariants.{Range}
-use Rattle.sheet.specs.Outcome.{Outcome, good, bad, then, held, runs}
+use Rattle.sheet.specs.Outcome.{Outcome, good, then, held, runs}
 use Rattle.sheet.specs.Fields.{pair, span_at, byte_at, part_at}
 
 -- the functions, the offset of each, and all parameters and results one after another

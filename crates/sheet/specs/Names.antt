@@ -3,7 +3,7 @@ use Rattle.std.specs.Prelude.{ℕ, ◌+◌, Bool, true, false, cond, not, ◌&&�
 use Rattle.std.specs.Char.{is_ascii_digit, is_ascii_alphabetic}
 use Rattle.std.specs.Str.{bytes_eq}
 use Rattle.xi.specs.declared.rule.Rule.TheVariants.{Name, Range}
-use Rattle.sheet.specs.Outcome.{Outcome, good, bad, then, held}
+use Rattle.sheet.specs.Outcome.{Outcome, good, then, held}
 use Rattle.sheet.specs.Fields.{text_at, part_at}
 
 -- the byte b may stand at place i of an identifier: a letter first, then letters, digits, `_` and `'`

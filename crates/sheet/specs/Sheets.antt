@@ -1,10 +1,10 @@
 -- What the bytes of a sheet stand for.
-use Rattle.std.specs.Prelude.{ℕ, ◌+◌, Bool, List, length, ℤ, ◌==◌, nat_le, nat_lt, slice_index}
+use Rattle.std.specs.Prelude.{ℕ, ◌+◌, List, length, ℤ, ◌==◌, nat_le, nat_lt, slice_index}
 use Rattle.xi.specs.declared.node.Node.{Node}
 use Rattle.xi.specs.declared.program.GlobalVariable.{GlobalVariable}
 use Rattle.xi.specs.declared.rule.Rule.TheVariants.{Version, Bytes}
 use Rattle.xi.specs.Program.{Program}
-use Rattle.sheet.specs.Outcome.{Outcome, good, bad, then, held}
+use Rattle.sheet.specs.Outcome.{Outcome, good, then, held}
 use Rattle.sheet.specs.Fields.{pair, quad, signed_at, items_at}
 use Rattle.sheet.specs.Names.{names_at}
 use Rattle.sheet.specs.Nodes.{node_reads}

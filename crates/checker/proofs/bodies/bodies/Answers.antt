@@ -1,6 +1,6 @@
 use Rattle.std.proofs.Common.{◌<◌, ◌≤◌, length, sym, ◌∙◌, arith}
 use Rattle.checker.specs.Trees.{function_at}
-use Rattle.checker.specs.Checked.{body_held, bodies_held}
+use Rattle.checker.specs.Checked.{body_held}
 use Rattle.checker.specs.Held.{held_by}
 use Rattle.sheet.proofs.Outcomes.{said_on}
 use Rattle.sheet.proofs.Steps.{step-bad, step-good, no_more}

@@ -1,4 +1,4 @@
-use Rattle.std.proofs.Common.{◌≡◌, ◌<◌, ◌≤◌, List, length, sym, refl, ap, ◌∙◌, subst, arith, rules, below_more}
+use Rattle.std.proofs.Common.{◌<◌, ◌≤◌, length, sym, ap, ◌∙◌, subst, arith, rules, below_more}
 use Rattle.xi.specs.declared.node.Node.{Node}
 use Rattle.xi.specs.Tree.{node_at}
 use Rattle.checker.specs.Trees.{parts_in, claimed_all, parts_claimed}

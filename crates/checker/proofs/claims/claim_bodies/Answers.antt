@@ -1,4 +1,4 @@
-use Rattle.std.proofs.Common.{◌≡◌, ◌<◌, ◌≤◌, length, sym, ◌∙◌, arith, rules, below_more}
+use Rattle.std.proofs.Common.{◌<◌, ◌≤◌, length, sym, ◌∙◌, arith, rules, below_more}
 use Rattle.checker.specs.Trees.{function_at, body_claimed}
 use Rattle.checker.specs.Held.{held_by}
 use Rattle.sheet.proofs.Outcomes.{said_on}

@@ -1,4 +1,4 @@
-use Rattle.std.proofs.Common.{◌≡◌, ◌<◌, ◌≤◌, length, sym, ap, ◌∙◌, rules}
+use Rattle.std.proofs.Common.{◌<◌, ◌≤◌, length, sym, ap, ◌∙◌, rules}
 use Rattle.checker.specs.Walk.{ends_last, ends_of}
 use Rattle.checker.specs.Held.{held_by}
 use Rattle.checker.proofs.Endings.{ends_none, ends_last-get}

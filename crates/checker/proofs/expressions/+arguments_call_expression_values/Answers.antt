@@ -1,12 +1,11 @@
-use Rattle.std.proofs.Common.{◌≡◌, true, false, ◌&&◌, length, sym, refl, ap, ◌∙◌, rules}
-use Rattle.sheet.specs.Outcome.{good}
+use Rattle.std.proofs.Common.{length, sym, refl, ◌∙◌, rules}
 use Rattle.sheet.proofs.Outcomes.{said_on}
 use Rattle.checker.specs.Held.{held_by}
 use Rattle.checker.specs.Scopes.{scope_of}
 use Rattle.checker.specs.Walk.{type_of}
 use Rattle.checker.specs.Wants.{wanted_types}
 use Rattle.checker.proofs.Calls.{call-bad, call-good, library-bad, library-good, by-call-bad, by-call-good}
-use Rattle.checker.proofs.Fitting.{left, fit-bad, fit_next, fit-end, fit-kept, fit-lost}
+use Rattle.checker.proofs.Fitting.{fit-bad, fit-end, fit-kept, fit-lost}
 use Rattle.checker.proofs.expressions.+arguments_call_expression_values.Goals as goal
 use Rattle.checker.proofs.expressions.+arguments_call_expression_values.Goals.{values-then-not-is_wanted, values-else-not-is_wanted}
 

@@ -1,5 +1,5 @@
 use Rattle.std.proofs.Common.{◌<◌, ◌≤◌, length, sym, ap, ◌∙◌, arith}
-use Rattle.checker.specs.Checked.{global_free, globals_free}
+use Rattle.checker.specs.Checked.{global_free}
 use Rattle.checker.specs.Held.{held_by}
 use Rattle.sheet.proofs.Outcomes.{said_on}
 use Rattle.sheet.proofs.Steps.{step-bad, step-good, no_more}

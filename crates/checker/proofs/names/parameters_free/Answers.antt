@@ -1,5 +1,5 @@
 use Rattle.std.proofs.Common.{◌<◌, ◌≤◌, length, sym, ◌∙◌, arith}
-use Rattle.checker.specs.Checked.{parameters_free_of, parameters_free}
+use Rattle.checker.specs.Checked.{parameters_free_of}
 use Rattle.checker.specs.Held.{held_by}
 use Rattle.sheet.proofs.Outcomes.{said_on}
 use Rattle.sheet.proofs.Steps.{step-bad, step-good, no_more}

@@ -1,5 +1,5 @@
 use Rattle.std.proofs.Common.{◌<◌, ◌≤◌, length, sym, ◌∙◌, arith}
-use Rattle.checker.specs.Checked.{parameter_free, parameters_free_in}
+use Rattle.checker.specs.Checked.{parameter_free}
 use Rattle.sheet.proofs.Outcomes.{said_on}
 use Rattle.sheet.proofs.Steps.{step-bad, step-good, no_more}
 use Rattle.checker.proofs.names.parameters_free_in.Goals as goal

@@ -1,4 +1,4 @@
-use Rattle.std.proofs.Common.{◌≡◌, false, sym, ap, ◌∙◌, subst}
+use Rattle.std.proofs.Common.{false, sym, ap, ◌∙◌, subst}
 use Rattle.xi.specs.declared.node.Node.{Node}
 use Rattle.checker.specs.Facts.{PartsBelow}
 use Rattle.checker.specs.Trees.{offset_of}

@@ -1,4 +1,4 @@
-use Rattle.std.proofs.Common.{◌≡◌, get_or, sym, refl, ap, ◌∙◌}
+use Rattle.std.proofs.Common.{get_or, sym, refl, ap, ◌∙◌}
 use Rattle.sheet.proofs.Outcomes.{said_on}
 use Rattle.xi.specs.Typing.{numbers_of}
 use Rattle.checker.specs.Walk.{is_empty, after_all, after_of}

@@ -1,4 +1,4 @@
-use Rattle.std.proofs.Common.{◌≡◌, ◌<◌, ◌≤◌, not, length, get_or, sym, ap, ◌∙◌, arith}
+use Rattle.std.proofs.Common.{◌<◌, ◌≤◌, not, length, get_or, sym, ap, ◌∙◌, arith}
 use Rattle.xi.specs.declared.rule.Rule.TheVariants.{Tree as TreeRule}
 use Rattle.sheet.specs.Outcome.{held, bad}
 use Rattle.checker.specs.declared.mark.Mark.TheVariants.{Free}

@@ -1,4 +1,4 @@
-use Rattle.std.proofs.Common.{◌≡◌, ℕ, List, [], ◌∷◌, ◌++◌, IfOk, string_bytes, codes, sym, ap, subst}
+use Rattle.std.proofs.Common.{ℕ, [], ◌∷◌, ◌++◌, IfOk, string_bytes, codes, sym, ap, subst}
 use Rattle.sheet.specs.declared.refusal.Refusal.{Refusal}
 use Rattle.report.specs.Replies.{Refused, spaced}
 use Rattle.report.proofs.Texts.{retold}

@@ -1,7 +1,7 @@
-use Rattle.std.proofs.Common.{◌≡◌, ◌^◌, ◌<◌, length, ◌∙◌, rules}
+use Rattle.std.proofs.Common.{◌^◌, ◌<◌, length, ◌∙◌, rules}
 use Rattle.sheet.specs.Outcome.{good, then}
 use Rattle.sheet.proofs.Outcomes.{then_good, then_bad, said_on}
-use Rattle.checker.specs.Checked.{rules_held, checked_at}
+use Rattle.checker.specs.Checked.{rules_held}
 use Rattle.checker.specs.Held.{held_by}
 use Rattle.checker.proofs.Exactly.{accepts_exactly}
 use Rattle.checker.proofs.Granting.{grants}

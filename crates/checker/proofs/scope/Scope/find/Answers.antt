@@ -1,4 +1,4 @@
-use Rattle.std.proofs.Common.{◌≡◌, sym, ◌∙◌, arith}
+use Rattle.std.proofs.Common.{sym, ◌∙◌, arith}
 use Rattle.checker.specs.Scopes.{scope_of}
 use Rattle.checker.proofs.Scoped.{find-here, find-on, find_none}
 use Rattle.checker.proofs.scope.Scope.find.Goals as goal

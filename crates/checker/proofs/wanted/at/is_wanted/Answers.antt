@@ -1,11 +1,11 @@
-use Rattle.std.proofs.Common.{◌≡◌, ℕ, ◌<◌, ◌≤◌, eqb, ltb, List, [], ◌∷◌, map, length, get_or, drop, replicate, sym, refl, ap, ◌∙◌, arith}
+use Rattle.std.proofs.Common.{◌≡◌, ℕ, ◌<◌, ◌≤◌, eqb, ltb, List, [], ◌∷◌, map, length, get_or, drop, replicate, sym, refl, ap, ◌∙◌}
 use lib.ListN.{length-map, length-replicate}
 use Rattle.std.proofs.lemmas.List.{at_drop_more, at_drop_all, get_or-map, get_or-replicate}
 use Rattle.std.proofs.lemmas.Bool.{le-ltb}
 use Rattle.xi.specs.declared.node.Ty.{Ty}
 use Rattle.xi.specs.declared.program.Parameter.{Parameter}
 use Rattle.checker.specs.declared.wanted.Wanted.{Wanted}
-use Rattle.xi.specs.Typing.{Binding, binding, numbers_of, types_of}
+use Rattle.xi.specs.Typing.{binding, types_of}
 use Rattle.checker.specs.Wants.{wanted_types, begins}
 use Rattle.checker.proofs.wanted.at.is_wanted.Goals as goal
 

@@ -1,4 +1,4 @@
-use Rattle.std.proofs.Common.{◌+◌, ◌*◌, sym, ◌∙◌, arith, rules}
+use Rattle.std.proofs.Common.{◌+◌, ◌*◌, sym, ◌∙◌, rules}
 use Rattle.sheet.specs.Functions.{parameter_item}
 use Rattle.sheet.proofs.Outcomes.{said_on}
 use Rattle.sheet.proofs.Steps.{step-bad, step-good, no_more}

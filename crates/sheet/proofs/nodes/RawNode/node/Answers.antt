@@ -1,4 +1,4 @@
-use Rattle.std.proofs.Common.{◌≡◌, sym, ◌∙◌, arith}
+use Rattle.std.proofs.Common.{sym, ◌∙◌, arith}
 use Rattle.sheet.proofs.NodeKinds.{past_statements}
 use Rattle.sheet.proofs.nodes.RawNode.node.Goals as goal
 
