@@ -3,10 +3,14 @@ use Rattle.std.proofs.Common.{◌≡◌, ℕ, zero, suc, ◌+◌, ◌-◌, ◌*�
 use mathlib.Core.Bool.{beq}
 use lib.Signed.{lt_z}
 use Rattle.std.specs.Int.{int_wrap}
-use Rattle.std.proofs.lemmas.Bool.{le-ltb}
+use Rattle.std.proofs.lemmas.Bool.{le-ltb, ne_eqb}
+use Rattle.std.proofs.lemmas.Int.{to_z-of_z, of_z-to_z}
 use Rattle.semantics.specs.Numbers.{nearest, same_sign}
 use Rattle.semantics.specs.Rules.{is_zero}
-use Rattle.arithmetic.proofs.Quotients.{not-zero}
+
+not-zero : (y : ℤ) → (of_z w64 y ≡ 0 → ⊥) → is_zero y ≡ false
+not-zero (pos n) h = ne_eqb n 0 h
+not-zero (negsuc n) h = refl
 
 abs_bound : (x : ℤ) → SFits w64 x → nat_abs x ≤ 2 ^ 63
 abs_bound (pos n) f = omega (arith, f.sfits)
@@ -45,3 +49,6 @@ module _ (x y : ℤ) (fx : SFits w64 x) (k : of_z w64 y ≡ 0 → ⊥) where
 
   pub other-ratio : beq (lt_z x (pos 0)) (lt_z y (pos 0)) ≡ false → Some (to_z w64 ((2 ^ 64 - rounded) % 2 ^ 64)) ≡ cond (is_zero y) None (Some (int_wrap w64 (nearest x y)))
   other-ratio e = rw (not-zero y k, sym (signs x y) ∙ e, wrapped_minus rounded rounded-fits)
+
+-- what proves that `ratio` rounds
+pub ruleset rounds = (to_z-of_z, of_z-to_z, rounded-fits, same-ratio, other-ratio)

@@ -6,16 +6,17 @@ ghost use Rattle.std.specs.Int.{int_wrap, w64};
 ghost use Rattle.semantics.specs.Numbers.{nearest};
 ghost use Rattle.semantics.specs.Rules.{is_zero};
 
-pub mod decimal;
 #[cfg(test)]
 mod tests;
 
+#[tactic(auto, using(std::proofs::lemmas::Int::wraps))]
 pub fn add(x: i64, y: i64) -> i64
     ensures { result ≡ int_wrap w64 (x +ℤ y) }
 {
     x.wrapping_add(y)
 }
 
+#[tactic(auto, using(std::proofs::lemmas::Int::wraps))]
 pub fn subtract(x: i64, y: i64) -> i64
     ensures { result ≡ int_wrap w64 (x -ℤ y) }
 {
@@ -28,6 +29,7 @@ pub fn multiply(x: i64, y: i64) -> i64
     x.wrapping_mul(y)
 }
 
+#[tactic(auto, using(std::proofs::lemmas::Int::wraps))]
 pub fn negate(x: i64) -> i64
     ensures { result ≡ int_wrap w64 (neg_ℤ x) }
 {
@@ -35,16 +37,15 @@ pub fn negate(x: i64) -> i64
 }
 
 // The quotient without its fraction, or none over 0.
+#[tactic(auto, using(crate::proofs::Quotients::smallest_quotient))]
 pub fn divide(x: i64, y: i64) -> Option<i64>
     ensures { result ≡ (if is_zero y then None else Some (int_wrap w64 (int_div x y))) }
 {
-    if y == 0 {
-        None
-    } else if x == i64::MIN && y == -1 {
+    match (x, y) {
+        (_, 0) => None,
         // the only quotient past the largest number
-        Some(i64::MIN)
-    } else {
-        Some(x / y)
+        (i64::MIN, -1) => Some(i64::MIN),
+        _ => Some(x / y),
     }
 }
 
@@ -52,26 +53,22 @@ pub fn divide(x: i64, y: i64) -> Option<i64>
 pub fn remainder(x: i64, y: i64) -> Option<i64>
     ensures { result ≡ (if is_zero y then None else Some (int_rem x y)) }
 {
-    if y == 0 {
-        None
-    } else if y == -1 {
+    match y {
+        0 => None,
         // no number leaves anything, and the smallest has no quotient
-        Some(0)
-    } else {
-        Some(x % y)
+        -1 => Some(0),
+        _ => Some(x % y),
     }
 }
 
 // The nearest whole number to the quotient, halves away from zero, or none over 0.
+#[tactic(auto, using(crate::proofs::Ratios::rounds))]
 pub fn ratio(x: i64, y: i64) -> Option<i64>
     ensures { result ≡ (if is_zero y then None else Some (int_wrap w64 (nearest x y))) }
 {
-    if y == 0 {
-        return None;
-    }
     let dividend = u128::from(x.unsigned_abs());
     let divisor = u128::from(y.unsigned_abs());
-    let rounded = ((2 * dividend + divisor) / (2 * divisor)) as u64;
+    let rounded = (2 * dividend + divisor).checked_div(2 * divisor)? as u64;
     if (x < 0) == (y < 0) {
         Some(rounded.cast_signed())
     } else {

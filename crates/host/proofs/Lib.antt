@@ -1,5 +1,4 @@
-pub mod Digits
-pub mod Fronts
+pub mod Decimals
 pub mod Pieces
 pub mod Rows
 pub mod Streams

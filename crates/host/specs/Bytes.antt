@@ -1,13 +1,7 @@
--- What a byte host has left to read and has written, and its room.
-use Rattle.std.specs.Prelude.{ℕ, List, drop}
-use Rattle.host.specs.Output as output
-use Rattle.host.specs.declared.bytes.ByteHost.{ByteHost}
+-- What a byte host has left to read.
+use Rattle.std.specs.Prelude.{ℕ, List}
+use Rattle.host.specs.declared.text.TextHost.{TextHost}
+use Rattle.host.specs.declared.bytes.ByteSource.{ByteSource}
 
-abbrev pub left : ByteHost → List ℕ
-left h = drop h.at h.text.now
-
-abbrev pub written : ByteHost → List ℕ
-written h = output.written h.out
-
-abbrev pub room : ByteHost → ℕ
-room h = output.room h.out
+abbrev pub left : TextHost ByteSource → List ℕ
+left h = h.source.unread.now

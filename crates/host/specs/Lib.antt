@@ -1,6 +1,8 @@
 pub mod Bytes
 pub mod Decimal
+pub mod Host
 pub mod Output
+pub mod Pieces
 pub mod Stream
 pub mod Text
 pub mod Tile

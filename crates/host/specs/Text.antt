@@ -1,5 +1,6 @@
 -- Words on a text, a list of characters: what a host shows, reads and accepts, and the length of a row.
-use Rattle.std.specs.Prelude.{ℕ, suc, Bool, false, cond, List, [], ◌∷◌, length, Some, None, Option, ◌==◌, nat_le, nat_lt, slice_index}
+use Rattle.std.specs.Prelude.{ℕ, Bool, false, cond, List, [], ◌∷◌, length, Some, None, Option, ◌==◌, nat_le, nat_lt, slice_index}
+use Rattle.std.specs.List.{position_or_len}
 
 -- item i of a list, where there is one
 abbrev pub item : List ℕ → ℕ → Option ℕ
@@ -18,9 +19,8 @@ abbrev pub takes : ℕ → ℕ → Bool
 takes room c = cond (nat_lt 0 room) (nat_le c 1114111) false
 
 -- how many characters come before the next newline, or the end
-unfoldable pub row_length : List ℕ → ℕ
-row_length [] = 0
-row_length (c ∷ cs) = cond (c == 10) 0 (suc (row_length cs))
+abbrev pub row_length : List ℕ → ℕ
+row_length cs = position_or_len (λ c. c == 10) cs
 
 -- that length, where it is at most `most`
 abbrev pub row_within : List ℕ → ℕ → Option ℕ

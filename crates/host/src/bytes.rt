@@ -1,18 +1,17 @@
 // A host that reads bytes, each a character.
-ghost use Rattle.std.specs.Prelude.{◌≡◌, [], length};
-ghost use Rattle.host.specs.Bytes.{left, written, room};
-ghost use Rattle.host.specs.Text.{first, rest};
+ghost use Rattle.std.specs.Prelude.{◌≡◌, [], length, ◌==◌, position};
+ghost use Rattle.host.specs.Bytes.{left};
+ghost use Rattle.host.specs.Host.{written, room};
 
-use crate::Host;
-use crate::output::Output;
+use crate::source::Source;
+use crate::text::TextHost;
 
 #[derive(Drop)]
-pub struct ByteHost<'t, 'o> {
-    text: &'t [u8],
-    // how many bytes are read
-    at: usize,
-    out: Output<'o>,
+pub struct ByteSource<'t> {
+    unread: &'t [u8],
 }
+
+pub type ByteHost<'t, 'o> = TextHost<'o, ByteSource<'t>>;
 
 impl<'t, 'o> ByteHost<'t, 'o> {
     pub fn new(text: &'t [u8], out: &'o mut [u32]) -> ByteHost<'t, 'o>
@@ -21,74 +20,34 @@ impl<'t, 'o> ByteHost<'t, 'o> {
         ensures room { room result ≡ length out.old }
         ensures out { result.out.buffer.now ≡ out.old }
     {
-        ByteHost {
-            text,
-            at: 0,
-            out: Output::new(out),
-        }
-    }
-
-    // What is written so far.
-    pub fn output(&self) -> &[u32]
-        ensures { result.now ≡ written self.now }
-    {
-        self.out.text()
-    }
-
-    fn unread(&self) -> &[u8]
-        ensures { result.now ≡ left self.now }
-    {
-        &self.text[self.at.min(self.text.len())..]
-    }
-
-    // The next character, which stays unread.
-    fn next(&self) -> Option<u32>
-        ensures { result ≡ first (left self.now) }
-    {
-        match self.unread() {
-            [byte, ..] => Some(u32::from(*byte)),
-            [] => None,
-        }
-    }
-
-    // Goes on past the next character, if there is one.
-    fn advance(&mut self)
-        ensures left { left self.new ≡ rest (left self.old) }
-        ensures out { self.new.out ≡ self.old.out }
-    {
-        if self.at < self.text.len() {
-            self.at += 1;
-        }
+        TextHost::over(ByteSource { unread: text }, out)
     }
 }
 
-impl Host for ByteHost<'_, '_> {
-    ghost left = { left };
-
-    ghost written = { written };
-
-    ghost room = { room };
+impl Source for ByteSource<'_> {
+    ghost unread = { λ s. s.unread.now };
 
     fn ahead(&self, i: usize) -> Option<u32> {
-        let unread = self.unread();
-        if i < unread.len() {
-            Some(u32::from(unread[i]))
-        } else {
-            None
-        }
+        self.unread.get(i).copied().map(u32::from)
     }
 
     fn take(&mut self) -> Option<u32> {
-        let c = self.next();
-        self.advance();
-        c
+        let (byte, rest) = self.unread.split_first()?;
+        self.unread = rest;
+        Some(u32::from(*byte))
     }
 
-    fn free(&self) -> usize {
-        self.out.free()
+    fn row_within(&self, most: usize) -> Option<usize> {
+        // no more of the text is looked at than this
+        let near = self.unread.len().min(most.saturating_add(1));
+        let row = newline(&self.unread[..near]).unwrap_or(near);
+        (row <= most).then_some(row)
     }
+}
 
-    fn put(&mut self, c: u32) -> bool {
-        self.out.put(c)
-    }
+// The place of the first newline.
+fn newline(text: &[u8]) -> Option<usize>
+    ensures { result ≡ position (λ c. c == 10) text.now }
+{
+    text.iter().position(|byte| *byte == b'\n')
 }

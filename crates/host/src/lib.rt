@@ -5,16 +5,17 @@ ghost use Rattle.std.specs.Prelude.{◌≡◌, ℕ, ◌-◌, List, [], ◌∷◌
 ghost use Rattle.host.specs.Text.{item, first, rest, takes, row_within};
 
 pub mod bytes;
-mod decimal;
 mod output;
+pub mod source;
 #[cfg(test)]
 mod tests;
+pub mod text;
 pub mod tiles;
 
-pub const NEWLINE: u32 = 10;
+pub const NEWLINE: u32 = '\n' as u32;
 
 // The greatest number that is a character.
-pub const LAST_CHARACTER: u32 = 1_114_111;
+pub const LAST_CHARACTER: u32 = char::MAX as u32;
 
 pub trait Host {
     // the characters still unread
@@ -40,7 +41,7 @@ pub trait Host {
     fn free(&self) -> usize
         ensures { result ≡ room self.now };
 
-    // Writes a character, and says whether there was room and it is one.
+    // Writes a character, and says whether there was room and it is one. With no value and no reason to give, the answer is a `bool`.
     fn put(&mut self, c: u32) -> bool
         ensures value { result ≡ takes (room self.old) c }
         ensures left { left self.new ≡ left self.old }
@@ -51,6 +52,7 @@ pub trait Host {
     fn row_within(&self, most: usize) -> Option<usize>
         ensures { result ≡ row_within (left self.now) most }
     {
+        // the interface is by index, and what is read ends the loop: `find` would want a closure with a contract
         for i in 0..=most {
             let Some(c) = self.ahead(i) else {
                 return Some(i);

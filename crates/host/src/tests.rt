@@ -4,27 +4,18 @@ use crate::{Host, LAST_CHARACTER};
 
 // Whether the host reads these characters and then ends.
 fn reads<H: Host + Drop>(mut host: H, expected: &[u8]) -> bool {
-    for byte in expected {
-        match host.take() {
-            Some(c) => {
-                if c != u32::from(*byte) {
-                    return false;
-                }
-            }
-            None => return false,
-        }
-    }
-    host.take().is_none()
+    expected
+        .iter()
+        .all(|byte| host.take() == Some(u32::from(*byte)))
+        && host.take().is_none()
 }
 
 fn tile_reads(heights: &[i16], width: usize, expected: &[u8]) -> bool {
-    let mut out = [0u32; 1];
-    reads(TileHost::new(heights, width, &mut out), expected)
+    reads(TileHost::new(heights, width, &mut [0; 1]), expected)
 }
 
 fn bytes_read(text: &[u8]) -> bool {
-    let mut out = [0u32; 1];
-    reads(ByteHost::new(text, &mut out), text)
+    reads(ByteHost::new(text, &mut [0; 1]), text)
 }
 
 #[test]

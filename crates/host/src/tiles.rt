@@ -1,201 +1,201 @@
 // A host that reads a tile's heights as a text: decimals in rows.
-ghost use Rattle.std.specs.Prelude.{◌≡◌, ℕ, ◌+◌, ◌^◌, ◌<◌, ◌≤◌, [], length, drop, if◌then◌else◌, Some, None, nat_le};
-ghost use Rattle.host.specs.Stream.{newline_behind, piece_at, separator_behind, unread};
-ghost use Rattle.host.specs.Text.{item, first, rest};
-ghost use Rattle.host.specs.Tile.{tile_text};
-ghost use Rattle.host.specs.Tiles.{left, written, room};
+ghost use Rattle.std.specs.Prelude.{◌≡◌, ℕ, ◌+◌, ◌^◌, ◌<◌, [], length, if◌then◌else◌, Some, None, nat_le};
+ghost use Rattle.host.specs.Stream.{front, piece_text};
 
-use crate::output::Output;
-use crate::{Host, NEWLINE, decimal};
+use crate::NEWLINE;
+use crate::source::Source;
+use crate::text::TextHost;
 
-const COMMA: u32 = 44;
+const COMMA: u32 = ',' as u32;
 
 // A tile of more heights is read as empty.
 const MOST_HEIGHTS: usize = 4_294_967_296;
 
-// A height's piece of the text is its decimal with the separator behind it.
-#[derive(Drop)]
-pub struct TileHost<'t, 'o> {
-    heights: &'t [i16],
-    width: usize,
-    // the index of the height that is read
-    at: usize,
-    // how many characters of its piece are read
-    taken: usize,
-    out: Output<'o>,
-}
+pub type TileHost<'t, 'o> = TextHost<'o, TileSource<'t>>;
 
 impl<'t, 'o> TileHost<'t, 'o> {
+    ghost use Rattle.host.specs.Host.{written, room};
+    ghost use Rattle.host.specs.Tile.{tile_text};
+    ghost use Rattle.host.specs.Tiles.{left};
+
     pub fn new(heights: &'t [i16], width: usize, out: &'o mut [u32]) -> TileHost<'t, 'o>
         ensures left { left result ≡ (if nat_le (length heights.now) (2 ^ 32) then tile_text width heights.now else []) }
         ensures written { written result ≡ [] }
         ensures room { room result ≡ length out.old }
         ensures out { result.out.buffer.now ≡ out.old }
     {
-        TileHost {
-            heights,
-            width,
-            at: start(heights),
-            taken: 0,
-            out: Output::new(out),
-        }
+        TextHost::over(TileSource::new(heights, width), out)
     }
+}
 
-    // What is written so far.
-    pub fn output(&self) -> &[u32]
-        ensures { result.now ≡ written self.now }
-    {
-        self.out.text()
-    }
+#[derive(Drop)]
+pub struct TileSource<'t> {
+    pieces: Pieces<'t>,
+}
 
-    // Whether a newline stands behind height k.
-    fn newline_behind(&self, k: usize) -> bool
-        requires { k < length self.now.heights.now }
-        ensures { result ≡ newline_behind self.now.width k (drop (k + 1) self.now.heights.now) }
+impl<'t> TileSource<'t> {
+    ghost use Rattle.host.specs.Pieces.{unread};
+    ghost use Rattle.host.specs.Tile.{tile_text};
+
+    fn new(heights: &'t [i16], width: usize) -> TileSource<'t>
+        ensures { unread result.pieces ≡ (if nat_le (length heights.now) (2 ^ 32) then tile_text width heights.now else []) }
     {
-        let width = self.width;
-        if k + 1 == self.heights.len() || width == 0 {
-            false
+        let heights = if heights.len() <= MOST_HEIGHTS {
+            heights
         } else {
-            (k + 1) % width == 0
-        }
-    }
-
-    // What stands behind height k: nothing behind the last.
-    fn separator(&self, k: usize) -> Option<u32>
-        requires { k < length self.now.heights.now }
-        ensures { result ≡ first (separator_behind self.now.width k (drop (k + 1) self.now.heights.now)) }
-    {
-        if k + 1 == self.heights.len() {
-            None
-        } else if self.newline_behind(k) {
-            Some(NEWLINE)
-        } else {
-            Some(COMMA)
-        }
-    }
-
-    // How many characters height k's piece has.
-    fn piece_length(&self, k: usize) -> usize
-        requires { k < length self.now.heights.now }
-        ensures value { result ≡ length (piece_at self.now.width self.now.heights.now k) }
-        ensures bound { result ≤ 7 }
-    {
-        let digits = decimal::length(self.heights[k]);
-        match self.separator(k) {
-            Some(_) => digits + 1,
-            None => digits,
-        }
-    }
-
-    // Character j of height k's piece.
-    fn character(&self, k: usize, j: usize) -> Option<u32>
-        requires { k < length self.now.heights.now }
-        ensures { result ≡ item (piece_at self.now.width self.now.heights.now k) j }
-    {
-        let height = self.heights[k];
-        let digits = decimal::length(height);
-        if j < digits {
-            Some(decimal::character(height, j))
-        } else if j == digits {
-            self.separator(k)
-        } else {
-            None
-        }
-    }
-
-    // The next character, which stays unread.
-    fn next(&self) -> Option<u32>
-        ensures { result ≡ first (left self.now) }
-    {
-        self.ahead(0)
-    }
-
-    // Goes on past the next character, if there is one: it may be the first of the next piece.
-    fn advance(&mut self)
-        ensures left { left self.new ≡ rest (left self.old) }
-        ensures out { self.new.out ≡ self.old.out }
-    {
-        let at = self.at;
-        let taken = self.taken;
-        if at >= self.heights.len() {
-            return;
-        }
-        if taken < self.piece_length(at) {
-            self.taken = taken + 1;
-        } else {
-            self.at = at + 1;
-            self.taken = 1;
+            &[]
+        };
+        TileSource {
+            pieces: Pieces {
+                heights,
+                width,
+                index: 0,
+                taken: 0,
+            },
         }
     }
 }
 
-impl Host for TileHost<'_, '_> {
-    ghost left = { left };
+impl Source for TileSource<'_> {
+    ghost use Rattle.host.specs.Pieces as pieces;
 
-    ghost written = { written };
-
-    ghost room = { room };
+    ghost unread = { λ s. pieces.unread s.pieces };
 
     fn ahead(&self, i: usize) -> Option<u32> {
-        let mut taken = self.taken;
         let mut rest = i;
-        for k in self.at..self.heights.len() {
-            let unread = self.piece_length(k).saturating_sub(taken);
+        for piece in self.pieces {
+            let unread = piece.length();
             if rest < unread {
-                return self.character(k, taken + rest);
+                return piece.character(rest);
             }
             rest -= unread;
-            taken = 0;
         }
         None
     }
 
     fn take(&mut self) -> Option<u32> {
-        let c = self.next();
-        self.advance();
+        let mut behind = self.pieces;
+        let piece = behind.next()?;
+        let c = piece.character(0);
+        if piece.length() > 1 {
+            self.pieces.taken += 1;
+        } else {
+            self.pieces = behind;
+        }
         c
-    }
-
-    fn free(&self) -> usize {
-        self.out.free()
-    }
-
-    fn put(&mut self, c: u32) -> bool {
-        self.out.put(c)
     }
 
     // Goes from height to height, and not from character to character.
     fn row_within(&self, most: usize) -> Option<usize> {
-        let mut taken = self.taken;
         let mut length = 0;
-        for k in self.at..self.heights.len() {
-            let unread = self.piece_length(k).saturating_sub(taken);
-            if unread > 0 && self.newline_behind(k) {
+        for piece in self.pieces {
+            let unread = piece.length();
+            if piece.ends_row() {
                 return sum_within(length, unread - 1, most);
             }
             length = sum_within(length, unread, most)?;
-            taken = 0;
         }
         Some(length)
     }
-}
-
-// The height to read first: past the last if there are too many.
-fn start(heights: &[i16]) -> usize
-    ensures { (w : ℕ) → unread w result 0 (drop result heights.now) ≡ (if nat_le (length heights.now) (2 ^ 32) then tile_text w heights.now else []) }
-{
-    let count = heights.len();
-    if count <= MOST_HEIGHTS { 0 } else { count }
 }
 
 // The sum of a and b, if it is at most `most`.
 fn sum_within(a: usize, b: usize, most: usize) -> Option<usize>
     ensures { result ≡ (if nat_le (a + b) most then Some (a + b) else None) }
 {
-    if a <= most && b <= most - a {
-        Some(a + b)
-    } else {
-        None
+    a.checked_add(b).filter(|sum| *sum <= most)
+}
+
+// The pieces of a tile's text of which something is unread: each is a height with what stands behind it.
+#[derive(Clone, Copy, Drop)]
+struct Pieces<'t> {
+    heights: &'t [i16],
+    width: usize,
+    // the index in the tile of the first of these heights
+    index: usize,
+    // how many characters of its piece are read
+    taken: usize,
+    ghost bounded: { index + length heights.now < 2 ^ 63 },
+    ghost unread: { 0 < length heights.now → 0 < length (front width index taken heights.now) },
+}
+
+impl Pieces<'_> {
+    ghost use Rattle.host.specs.Stream.{separator_behind};
+    ghost use Rattle.host.specs.Text.{first};
+    ghost use Rattle.std.specs.Prelude.{drop};
+
+    // What stands behind the first height: nothing behind the last.
+    #[tactic(auto, using(crate::proofs::Pieces::separators))]
+    fn separator(&self) -> Option<u32>
+        ensures { result ≡ first (separator_behind self.now.width self.now.index (drop 1 self.now.heights.now)) }
+    {
+        if self.heights.len() <= 1 {
+            None
+        } else if (self.index + 1).is_multiple_of(self.width) {
+            Some(NEWLINE)
+        } else {
+            Some(COMMA)
+        }
+    }
+}
+
+impl Iterator for Pieces<'_> {
+    ghost use Rattle.std.specs.Iterator.{at_most};
+    ghost use Rattle.host.specs.Pieces.{gives};
+
+    type Item = Piece;
+
+    ghost next_gives = { gives };
+
+    ghost remaining = { λ s. at_most (length s.heights.now) };
+
+    fn next(&mut self) -> Option<Piece> {
+        let (height, rest) = self.heights.split_first()?;
+        let piece = Piece {
+            height: *height,
+            separator: self.separator(),
+            taken: self.taken,
+        };
+        self.heights = rest;
+        self.index += 1;
+        self.taken = 0;
+        Some(piece)
+    }
+}
+
+#[derive(Clone, Copy, Drop)]
+struct Piece {
+    height: i16,
+    separator: Option<u32>,
+    taken: usize,
+    ghost unread: { taken < length (piece_text height separator) },
+}
+
+impl Piece {
+    ghost use Rattle.std.specs.Prelude.{IsTrue, ◌↔◌};
+    ghost use Rattle.host.specs.Pieces.{unread_of};
+    ghost use Rattle.host.specs.Text.{item};
+
+    // How many characters are unread.
+    fn length(&self) -> usize
+        ensures { result ≡ length (unread_of self.now) }
+    {
+        numeral::length(i64::from(self.height)) + usize::from(self.separator.is_some()) - self.taken
+    }
+
+    // Character j of those unread.
+    fn character(&self, j: usize) -> Option<u32>
+        requires { j < length (unread_of self.now) }
+        ensures { result ≡ item (unread_of self.now) j }
+    {
+        numeral::character(i64::from(self.height), self.taken + j)
+            .map(u32::from)
+            .or(self.separator)
+    }
+
+    fn ends_row(&self) -> bool
+        ensures { IsTrue result ↔ (self.now.separator ≡ Some 10) }
+    {
+        self.separator == Some(NEWLINE)
     }
 }
