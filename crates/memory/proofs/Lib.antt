@@ -1,6 +1,5 @@
 pub mod Cells
 pub mod Nests
-pub mod Props
 pub mod Stores
 pub mod Values
 pub mod Words

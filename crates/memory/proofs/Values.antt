@@ -2,6 +2,7 @@
 use Rattle.std.proofs.Common.{◌≡◌, ℕ, zero, suc, ◌≤◌, true, false, List, [], ◌∷◌, map, reverse, length, take, drop, sym, refl, ap, ◌∙◌, arith, w64, to_z}
 use mathlib.Core.List.{reverse_aux}
 use mathlib.Core.Option.{some}
+use mathlib.Mathlib.Data.List.Basic.{map-reverse_aux}
 use Rattle.std.proofs.lemmas.List.{take-map}
 use Rattle.std.proofs.lemmas.Int.{to_z-of_z, to_z_pos}
 use Rattle.semantics.specs.State.{Value, int, bool, array, Slot, Move}
@@ -17,18 +18,14 @@ word_number (array p) r = to_z_pos w64 p r
 pub values_cells : (vs : List Value) → AllInRange vs → map cell_of_word (map word vs) ≡ map cell_of (map {B = Slot} some vs)
 values_cells [] r = refl
 values_cells (v ∷ vs) r =
-    let a : cell_of_word (word v) ≡ cell_of (some v) = ap set_cell (word_number v r.0) in
-    let b = values_cells vs r.1 in
+    let a : cell_of_word (word v) ≡ cell_of (some v) = ap set_cell (word_number v (r 0 v (omega arith))) in
+    let b = values_cells vs (λ k d h. r (suc k) d (omega arith)) in
     cc
 
 -- the newest operands, oldest first
 
-map_turned : {A B : Type 0} (f : A → B) (l r : List A) → map f (reverse_aux l r) ≡ reverse_aux (map f l) (map f r)
-map_turned f [] r = refl
-map_turned f (x ∷ l) r = map_turned f l (x ∷ r)
-
 pub newest_words : (n : ℕ) (O : List Value) → reverse (take n (map word O)) ≡ map word (reverse (take n O))
-newest_words n O = ap reverse (take-map word n O) ∙ sym (map_turned word (take n O) [])
+newest_words n O = ap reverse (take-map word n O) ∙ sym (map-reverse_aux word (take n O) [])
 
 take_turned : (n : ℕ) (O vs : List Value) (f : List Value → List Value → Move) → n ≤ length O → take_values n O vs f ≡ f (reverse_aux (take n O) vs) (drop n O)
 take_turned zero O vs f h = refl

@@ -1,5 +1,5 @@
 -- How values stand in words and in cells.
-use Rattle.std.specs.Prelude.{ℕ, ◌^◌, ◌<◌, true, false, List, [], ◌∷◌, ℤ, pos, FitsSigned}
+use Rattle.std.specs.Prelude.{ℕ, ◌^◌, ◌<◌, true, false, List, ℤ, pos, FitsSigned, All}
 use Rattle.std.proofs.Math.Option.{none, some}
 use Rattle.std.specs.Int.{w64}
 use Rattle.std.proofs.Common.{to_z, of_z}
@@ -40,5 +40,4 @@ InRange (bool b) = Unit {0}
 InRange (array p) = p < 2 ^ 63
 
 abbrev pub AllInRange : List Value → Type 0
-AllInRange [] = Unit {0}
-AllInRange (v ∷ vs) = InRange v × AllInRange vs
+AllInRange = All InRange

@@ -1,19 +1,23 @@
 // A stack in lent words.
-ghost use Rattle.std.specs.Prelude.{◌≡◌, ◌+◌, ◌<◌, ◌≤◌, [], ◌∷◌, ◌++◌, reverse, length, take, drop, slice_index, slice_set};
-ghost use Rattle.memory.specs.Stacks.{items, word_count, Sized, from_bottom};
+ghost use Rattle.std.specs.Prelude.{◌^◌, ◌<◌, ◌≤◌, length};
 
 #[derive(Drop)]
 pub struct Stack<'w> {
+    // lent and of fixed size, since a run allocates nothing: so the number in use stands beside them
     words: &'w mut [u64],
     // how many words are in use, from the front
     len: usize,
+    ghost within: { len ≤ length words.now },
+    ghost fits: { length words.now < 2 ^ 64 },
 }
 
 impl<'w> Stack<'w> {
+    ghost use Rattle.std.specs.Prelude.{◌≡◌, ◌+◌, [], ◌∷◌, ◌++◌, reverse, take, drop, slice_index, slice_set};
+    ghost use Rattle.memory.specs.Stacks.{items, word_count, from_bottom};
+
     pub fn new(words: &'w mut [u64]) -> Stack<'w>
         ensures items { items result ≡ [] }
         ensures count { word_count result ≡ length words.old }
-        ensures sized { Sized result }
     {
         Stack { words, len: 0 }
     }
@@ -25,22 +29,18 @@ impl<'w> Stack<'w> {
     }
 
     pub fn push(&mut self, word: u64)
-        requires sized { Sized self.old }
         requires room { length (items self.old) < word_count self.old }
         ensures items { items self.new ≡ word ∷ items self.old }
         ensures count { word_count self.new ≡ word_count self.old }
-        ensures sized { Sized self.new }
     {
         self.words[self.len] = word;
         self.len += 1;
     }
 
     pub fn pop(&mut self) -> u64
-        requires sized { Sized self.old }
         requires some { 0 < length (items self.old) }
         ensures items { items self.old ≡ result ∷ items self.new }
         ensures count { word_count self.new ≡ word_count self.old }
-        ensures sized { Sized self.new }
     {
         self.len -= 1;
         self.words[self.len]
@@ -48,7 +48,6 @@ impl<'w> Stack<'w> {
 
     // The word with k newer ones above it.
     pub fn top(&self, k: usize) -> u64
-        requires sized { Sized self.now }
         requires some { k < length (items self.now) }
         ensures { result ≡ slice_index (items self.now) k }
     {
@@ -57,7 +56,6 @@ impl<'w> Stack<'w> {
 
     // Word i from the bottom.
     pub fn get(&self, i: usize) -> u64
-        requires sized { Sized self.now }
         requires some { i < length (items self.now) }
         ensures { result ≡ slice_index (items self.now) (from_bottom (items self.now) i) }
     {
@@ -66,29 +64,25 @@ impl<'w> Stack<'w> {
 
     // Puts a word in place of word `at` from the bottom.
     pub fn set(&mut self, at: usize, word: u64)
-        requires sized { Sized self.old }
         requires some { at < length (items self.old) }
         ensures items { items self.new ≡ slice_set (items self.old) (from_bottom (items self.old) at) word }
         ensures count { word_count self.new ≡ word_count self.old }
-        ensures sized { Sized self.new }
     {
         self.words[at] = word;
     }
 
     // Drops the n newest words.
     pub fn cut(&mut self, n: usize)
-        requires sized { Sized self.old }
         requires some { n ≤ length (items self.old) }
         ensures items { items self.new ≡ drop n (items self.old) }
         ensures count { word_count self.new ≡ word_count self.old }
-        ensures sized { Sized self.new }
     {
         self.len -= n;
     }
 
     // The n newest words, oldest first.
+    #[tactic(auto, using(crate::proofs::Words::turning))]
     pub fn newest(&self, n: usize) -> &[u64]
-        requires sized { Sized self.now }
         requires some { n ≤ length (items self.now) }
         ensures { result.now ≡ reverse (take n (items self.now)) }
     {
@@ -96,19 +90,15 @@ impl<'w> Stack<'w> {
     }
 
     // Puts the n newest words of another stack on top, in their order.
+    #[tactic(auto, using(crate::proofs::Words::turning))]
     pub fn append(&mut self, from: &Stack, n: usize)
-        requires sized { Sized self.old }
-        requires from { Sized from.now }
         requires some { n ≤ length (items from.now) }
         requires room { length (items self.old) + n ≤ word_count self.old }
         ensures items { items self.new ≡ take n (items from.now) ++ items self.old }
         ensures count { word_count self.new ≡ word_count self.old }
-        ensures sized { Sized self.new }
     {
-        let start = from.len - n;
-        for i in 0..n {
-            let word = from.words[start + i];
-            self.push(word);
-        }
+        let start = self.len;
+        self.len += n;
+        self.words[start..self.len].copy_from_slice(from.newest(n));
     }
 }

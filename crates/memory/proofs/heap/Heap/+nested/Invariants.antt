@@ -1,17 +1,17 @@
-use Rattle.std.proofs.Common.{◌≡◌, ℕ, suc, ◌+◌, ◌*◌, length}
+use Rattle.std.proofs.Common.{◌≡◌, ℕ, ◌+◌, ◌-◌, ◌*◌, length}
 use Rattle.semantics.specs.State.{Store}
-use Rattle.semantics.specs.Numbers.{cells_for, nested}
-use Rattle.memory.specs.Heaps.{cells_in, cell_count, Clean, HoldsStore}
+use Rattle.semantics.specs.Numbers.{cells_for, filled, nested}
+use Rattle.memory.specs.Heaps.{cells_in, cell_count, HoldsStore}
 use Rattle.memory.proofs.Nests.{Filling}
 use Rattle.memory.proofs.heap.Heap.+nested.Given as goal
 
 abbrev pub decreases-nested : goal.decreases-nested
 decreases-nested l = length l.lengths.now
 
--- i elements are filled, and the next begins behind them
-abbrev pub invariant-loop-i : goal.invariant-loop-i
-invariant-loop-i l =
-    ((s : Store) (t : ℕ) → HoldsStore l.initial.self s → Filling (nested t l.inner) l.count (suc l.first) l.i s (cells_in l.self))
-    × Clean l.self
-    × (cell_count l.self ≡ cell_count l.initial.self)
-    × (length (cells_in l.self) ≡ length (cells_in l.initial.self) + l.i * cells_for l.inner)
+-- the elements before the place are filled, and the next begins behind them
+abbrev pub invariant-loop-place : goal.invariant-loop-place
+invariant-loop-place l = record {
+  elements : (s : Store) (t : ℕ) → HoldsStore l.initial.self s → Filling (nested t l.inner) l.place-end l.place (filled (l.place-end - (l.first + 1)) (l.first + 1) (nested t l.inner) s) (cells_in l.self);
+  used : length (cells_in l.self) + (l.place-end - l.place) * cells_for l.inner ≡ length (cells_in l.initial.self) + (l.place-end - (l.first + 1)) * cells_for l.inner;
+  count : cell_count l.self ≡ cell_count l.initial.self;
+}
