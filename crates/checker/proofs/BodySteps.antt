@@ -1,5 +1,5 @@
 -- The steps of a function's body.
-use Rattle.std.proofs.Common.{◌≡◌, ℕ, ◌<◌, ◌≤◌, Bool, true, false, ◌||◌, List, [], ◌∷◌, map, length, sym, refl, ap, ◌∙◌, arith}
+use Rattle.std.proofs.Common.{◌≡◌, ℕ, Bool, false, ◌||◌, List, [], map, sym, ap, ◌∙◌}
 use Rattle.xi.specs.declared.node.Ty.{Ty}
 use Rattle.xi.specs.declared.program.Function.{Function}
 use Rattle.xi.specs.declared.program.Parameter.{Parameter}
@@ -13,14 +13,6 @@ use Rattle.checker.specs.Trees.{offset_of}
 use Rattle.checker.specs.Walk.{is_empty, after_of, ends_of}
 use Rattle.checker.specs.Checked.{body_held}
 
-no_results : (ts : List Ty) → length ts ≤ 0 → is_empty (numbers_of ts) ≡ true
-no_results [] h = refl
-no_results (t ∷ ts) h = absurd (omega arith)
-
-some_results : (ts : List Ty) → 0 < length ts → is_empty (numbers_of ts) ≡ false
-some_results [] h = absurd (omega arith)
-some_results (t ∷ ts) h = refl
-
 module _
     (D : Decoded) (F : Function) (ts : List Ty) (ps : List Parameter) (Γ Δ : Scope)
     (gives : ts ≡ items_of D.program.results F.results) (takes : ps ≡ items_of D.program.parameters F.parameters)
@@ -32,9 +24,6 @@ module _
         (λ j. then (after_of D (numbers_of (sym gives j)) false (pushed (map (λ (p : Parameter). binding p.name p.ty) (sym takes j)) []) F.body) (λ _. held (is_empty (numbers_of (sym gives j)) || ends_of D.program F.body) Return (offset_of D F.body)))
         ∙ then_good _ (ap (λ Θ. after_of D (numbers_of ts) false Θ F.body) (sym scope) ∙ after)
 
-    pub body-without : length ts ≤ 0 → body_held D F ≡ good tt
-    body-without none = opened ∙ ap (λ b. held (b || ends_of D.program F.body) Return (offset_of D F.body)) (no_results ts none)
-
-    pub body-ends : (e : Bool) (p : ℕ) → 0 < length ts → e ≡ ends_of D.program F.body → p ≡ offset_of D F.body → held e Return p ≡ body_held D F
-    body-ends e p some is at =
-        sym (opened ∙ ap (λ b. held (b || ends_of D.program F.body) Return (offset_of D F.body)) (some_results ts some) ∙ (λ j. held (sym is j) Return (sym at j)))
+    -- h is what is tested at p: that there are no results, or that the body ends
+    pub body-ends : (h : Bool) (p : ℕ) → h ≡ (is_empty (numbers_of ts) || ends_of D.program F.body) → p ≡ offset_of D F.body → held h Return p ≡ body_held D F
+    body-ends h p is at = sym (opened ∙ (λ j. held (sym is j) Return (sym at j)))

@@ -1,10 +1,6 @@
 -- The last entry of a block.
-use Rattle.std.proofs.Common.{◌≡◌, ℕ, suc, ◌-◌, ◌<◌, ◌≤◌, Bool, false, List, [], ◌∷◌, length, get_or, sym, refl, ap, ◌∙◌, arith}
+use Rattle.std.proofs.Common.{◌≡◌, ℕ, suc, ◌-◌, ◌<◌, Bool, List, [], ◌∷◌, length, get_or, sym, refl, ap, ◌∙◌, arith}
 use Rattle.checker.specs.Walk.{ends_last}
-
-pub ends_none : (go : ℕ → Bool) (xs : List ℕ) → length xs ≤ 0 → ends_last go xs ≡ false
-ends_none go [] h = refl
-ends_none go (x ∷ xs) h = absurd (omega arith)
 
 pub ends_last-get : (go : ℕ → Bool) (xs : List ℕ) → 0 < length xs → ends_last go xs ≡ go (get_or xs (length xs - 1) 0)
 ends_last-get go [] h = absurd (omega arith)

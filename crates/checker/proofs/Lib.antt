@@ -15,7 +15,6 @@ pub mod Fitting
 pub mod Found
 pub mod Granting
 pub mod Levels
-pub mod Mains
 pub mod Marks
 pub mod NamesHeld
 pub mod NodeRanges
@@ -32,9 +31,11 @@ pub mod Placed
 pub mod ReadRanges
 pub mod ReadyStatements
 pub mod ReadyTypes
+pub mod Records
 pub mod Refusals
 pub mod Returns
 pub mod Scoped
+pub mod Searches
 pub mod Smallest
 pub mod TreeHeld
 pub mod Turns
@@ -43,3 +44,4 @@ pub mod WalkScopes
 pub mod Went
 pub mod WentStatements
 pub mod WentTypes
+pub mod Lookups

@@ -8,7 +8,8 @@ use Rattle.xi.specs.Program.{Program}
 use Rattle.xi.specs.Tree.{Each}
 use Rattle.xi.specs.Obeys.{Within, Character, depth_of, Ranged}
 use Rattle.sheet.specs.Fields.{pair}
-use Rattle.sheet.specs.Nodes.{unary_of, operator_of, library_of, is_character, are_characters, is_text, kept, kept_with, type_of, run_of, run_within, leaf_of, operation_of, collection_of, declaration_of, statement_of, target_or_block_of, raw_of, node_of}
+use Rattle.xi.specs.Codes.{unary_of, operator_of, library_of}
+use Rattle.sheet.specs.Nodes.{is_character, are_characters, is_text, kept, kept_with, type_of, run_of, run_within, leaf_of, operation_of, collection_of, declaration_of, statement_of, target_or_block_of, raw_of, node_of}
 
 -- half a type's number is at most its depth
 half : (t : ℕ) → t / 2 ≤ depth_of t

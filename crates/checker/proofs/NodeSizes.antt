@@ -5,7 +5,8 @@ use Rattle.xi.specs.declared.node.Node.{Node}
 use Rattle.xi.specs.declared.node.Node.TheVariants.{Number, Truth, Text, Variable, Element, Length, Unary, Binary, Constructor, Call, LibraryCall, Declare, DeclareValue, DeclareCall, Assign, AssignElement, If, IfElse, While, Return, CallStatement, Target, Discard, Block}
 use Rattle.xi.specs.Program.{Program}
 use Rattle.sheet.specs.Outcome.{good}
-use Rattle.sheet.specs.Nodes.{kept, kept_with, known, node_of, leaf_of, operation_of, collection_of, declaration_of, statement_of, target_or_block_of, node_reads, raw_of, unary_of, operator_of, library_of, is_text, type_of, run_of, run_within}
+use Rattle.xi.specs.Codes.{unary_of, operator_of, library_of}
+use Rattle.sheet.specs.Nodes.{kept, kept_with, known, node_of, leaf_of, operation_of, collection_of, declaration_of, statement_of, target_or_block_of, node_reads, raw_of, is_text, type_of, run_of, run_within}
 use Rattle.checker.specs.Facts.{Sized}
 use Rattle.checker.proofs.Opens.{never, same_good, and_left, and_right}
 

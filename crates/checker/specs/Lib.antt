@@ -8,3 +8,6 @@ pub mod Scopes
 pub mod Wants
 pub mod Tests
 pub mod Exact
+pub mod Singles
+pub mod Contents
+pub mod Repeats

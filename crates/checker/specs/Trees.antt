@@ -89,11 +89,15 @@ parts_claimed D n u = claimed_all D n (parts_in D.program (node_at D.program n))
 abbrev pub nodes_claimed : Decoded → List Mark → Outcome (List Mark)
 nodes_claimed D u = runs (parts_claimed D) (length D.program.nodes) 0 u
 
--- the body of function i is a block that is no part and no body yet
+-- node n is the body of a function at p: a block that is no part and no body yet
+abbrev pub claimed_as_body : Decoded → ℕ → ℕ → List Mark → Outcome (List Mark)
+claimed_as_body D n p u =
+    then (held (nat_lt n (length D.program.nodes) && (is_block (sort_of (node_at D.program n)) && is_free (slice_index_or u n Free))) TreeRule p) (λ _.
+    good (slice_set u n Body))
+
+-- the body of function i
 abbrev pub body_claimed : Decoded → ℕ → List Mark → Outcome (List Mark)
-body_claimed D i u =
-    then (held (nat_lt (function_at D.program i).body (length D.program.nodes) && (is_block (sort_of (node_at D.program (function_at D.program i).body)) && is_free (slice_index_or u (function_at D.program i).body Free))) TreeRule (slice_index D.function_places i)) (λ _.
-    good (slice_set u (function_at D.program i).body Body))
+body_claimed D i u = claimed_as_body D (function_at D.program i).body (slice_index D.function_places i) u
 
 abbrev pub bodies_claimed : Decoded → List Mark → Outcome (List Mark)
 bodies_claimed D u = runs (body_claimed D) (length D.program.functions) 0 u

@@ -1,22 +1,20 @@
 // The bodies of the functions.
-ghost use Rattle.std.specs.Prelude.{◌≡◌, ℕ, ◌<◌, ◌≤◌, [], map, length};
+ghost use Rattle.std.specs.Prelude.{◌≡◌, ◌<◌, ◌≤◌, ◌||◌, [], map, length};
 ghost use Rattle.sheet.specs.Outcome.{Said};
 ghost use Rattle.xi.specs.declared.program.Parameter.{Parameter as P};
-ghost use Rattle.xi.specs.Typing.{binding, pushed};
-ghost use Rattle.checker.specs.Trees.{function_at};
+ghost use Rattle.xi.specs.Typing.{binding, numbers_of, pushed};
 ghost use Rattle.checker.specs.Checked.{body_held, bodies_held};
-ghost use Rattle.checker.specs.Facts.{Granted, FunctionSized, Falling, Bodied};
-ghost use Rattle.checker.specs.Held.{held_by};
+ghost use Rattle.checker.specs.Contents.{contents};
+ghost use Rattle.checker.specs.Facts.{FunctionSized};
 ghost use Rattle.checker.specs.Scopes.{scope_of};
+ghost use Rattle.checker.specs.Walk.{ends_of, is_empty};
 
-use crate::access::{function_at, function_count, offset};
 use crate::ends::ends;
-use crate::lookup::{parameters, results};
-use crate::operators::hold;
 use crate::scope::Scope;
 use crate::statements::statement;
-use sheet::refusal::Refusal;
-use sheet::sheet::Sheet;
+use crate::trees::Trees;
+use sheet::refusal::{Refusal, hold};
+use xi::node::Ty;
 use xi::program::{Function, Parameter};
 use xi::rule::Rule;
 
@@ -26,50 +24,42 @@ fn parameter_scope(parameters: &[Parameter]) -> Scope
     ensures { scope_of result ≡ pushed (map (λ (p : P). binding p.name p.ty) parameters.now) [] }
 {
     let mut scope = Scope::empty();
-    for i in 0..parameters.len() {
-        scope = scope.with(parameters[i].name, parameters[i].ty);
+    for parameter in parameters {
+        scope = scope.with(*parameter);
     }
     scope
 }
 
-// The body of the function, and that it ends where the function has results.
-fn body_of(sheet: &Sheet, function: Function) -> Result<(), Refusal>
-    requires sized { FunctionSized (held_by sheet.now).program function }
-    requires granted { Granted (held_by sheet.now) }
-    requires falling { Falling (held_by sheet.now).program }
-    requires bodied { function.body < length (held_by sheet.now).program.nodes }
-    ensures { Said result (λ _. tt) (body_held (held_by sheet.now) function) }
+// The body `n` of a function that owes such results ends with a return, if it owes any.
+fn ends_as_owed(trees: &Trees, n: usize, owed: &[Ty]) -> bool
+    requires { n < length (contents trees.now.sheet).program.nodes }
+    ensures { result ≡ (is_empty (numbers_of owed.now) || ends_of (contents trees.now.sheet).program n) }
 {
-    let owed = results(sheet, function);
-    let scope = parameter_scope(parameters(sheet, function));
+    owed.is_empty() || ends(trees, n)
+}
+
+// The body of a function, and that it ends where the function has results.
+fn body_of(trees: &Trees, function: Function) -> Result<(), Refusal>
+    requires sized { FunctionSized (contents trees.now.sheet).program function }
+    requires bodied { function.body < length (contents trees.now.sheet).program.nodes }
+    ensures { Said result (λ _. tt) (body_held (contents trees.now.sheet) function) }
+{
+    let owed = trees.sheet.results(function);
+    let scope = parameter_scope(trees.sheet.parameters(function));
     let n = function.body as usize;
-    statement(sheet, owed, scope, n, false)?;
-    if owed.is_empty() {
-        return Ok(());
-    }
-    let at = offset(sheet, n);
-    hold(ends(sheet, n), Rule::Return, at)
+    statement(trees, n, owed, scope, false)?;
+    hold(
+        ends_as_owed(trees, n, owed),
+        Rule::Return,
+        trees.sheet.offset(n),
+    )
 }
 
-// The body of function `i`.
-fn body(sheet: &Sheet, i: usize) -> Result<(), Refusal>
-    requires known { i < length (held_by sheet.now).program.functions }
-    requires granted { Granted (held_by sheet.now) }
-    requires falling { Falling (held_by sheet.now).program }
-    requires bodied { Bodied (held_by sheet.now).program }
-    ensures { Said result (λ _. tt) (body_held (held_by sheet.now) (function_at (held_by sheet.now).program i)) }
+pub(crate) fn bodies(trees: &Trees) -> Result<(), Refusal>
+    ensures { Said result (λ _. tt) (bodies_held (contents trees.now.sheet)) }
 {
-    body_of(sheet, function_at(sheet, i))
-}
-
-pub(crate) fn bodies(sheet: &Sheet) -> Result<(), Refusal>
-    requires granted { Granted (held_by sheet.now) }
-    requires falling { Falling (held_by sheet.now).program }
-    requires bodied { Bodied (held_by sheet.now).program }
-    ensures { Said result (λ _. tt) (bodies_held (held_by sheet.now)) }
-{
-    for i in 0..function_count(sheet) {
-        body(sheet, i)?;
+    for record in trees.sheet.functions() {
+        body_of(trees, record.function)?;
     }
     Ok(())
 }

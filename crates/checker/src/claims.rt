@@ -1,18 +1,15 @@
 // Each part of a node has a smaller number and the kind that its place asks, and is a part once; so has each body.
-ghost use Rattle.std.specs.Prelude.{◌≡◌, ℕ, ◌+◌, ◌*◌, ◌<◌, ◌≤◌, length, OnOk};
+ghost use Rattle.std.specs.Prelude.{◌≡◌, ◌<◌, length, OnOk};
 ghost use Rattle.sheet.specs.Outcome.{Said};
-ghost use Rattle.xi.specs.Tree.{node_at, entries_of, all, at, suits, sort_of};
-ghost use Rattle.checker.specs.Trees.{asked, function_at, is_free, claimed, claimed_all, parts_in, parts_claimed, nodes_claimed, body_claimed, bodies_claimed, is_block};
-ghost use Rattle.checker.specs.Facts.{Granted, EachBelow, PartsBelow, Falling, Bodied, Sized};
-ghost use Rattle.checker.specs.Held.{held_by};
+ghost use Rattle.xi.specs.Tree.{all, at, suits, sort_of};
+ghost use Rattle.checker.specs.Trees.{asked, claimed, claimed_all, parts_in, nodes_claimed, claimed_as_body, bodies_claimed, is_block};
+ghost use Rattle.checker.specs.Facts.{EachBelow, PartsBelow, Falling, Bodied, Sized};
+ghost use Rattle.checker.specs.Contents.{contents};
 
-use crate::access::{
-    entries, function_at, function_count, function_place, node_at, node_count, offset,
-};
 use crate::mark::Mark;
 use crate::place::Place;
+use crate::read_sheet::ReadSheet;
 use sheet::refusal::Refusal;
-use sheet::sheet::Sheet;
 use xi::node::Node;
 use xi::rule::Rule;
 
@@ -53,28 +50,23 @@ fn suits(place: Place, node: Node) -> bool
     }
 }
 
-pub(crate) fn is_free(mark: Mark) -> bool
-    ensures { result ≡ is_free mark }
-{
-    matches!(mark, Mark::Free)
-}
-
 // Notes that `part` is a part of node `n`, in such a place.
+// The marks stay beside the sheet: with both in one struct each clause would have to add that the sheet stays as it was.
 fn claim(
-    sheet: &Sheet,
+    sheet: &ReadSheet,
     marks: &mut [Mark],
     n: usize,
-    part: usize,
+    part: u16,
     place: Place,
 ) -> Result<(), Refusal>
-    requires known { n < length (held_by sheet.now).program.nodes }
-    requires granted { Granted (held_by sheet.now) }
-    requires long { length marks.old ≡ length (held_by sheet.now).program.nodes }
-    ensures said { Said result (λ _. marks.new) (claimed (held_by sheet.now) n (at (asked place) part) marks.old) }
+    requires known { n < length (contents sheet.now).program.nodes }
+    requires long { length marks.old ≡ length (contents sheet.now).program.nodes }
+    ensures said { Said result (λ _. marks.new) (claimed (contents sheet.now) n (at (asked place) part) marks.old) }
     ensures below { OnOk result (part < n) }
 {
-    let at = offset(sheet, n);
-    if part >= n || !suits(place, node_at(sheet, part)) || !is_free(marks[part]) {
+    let at = sheet.offset(n);
+    let part = part as usize;
+    if part >= n || !suits(place, sheet.node_at(part)) || marks[part] != Mark::Free {
         return Err(Refusal::Broken {
             rule: Rule::Tree,
             at,
@@ -86,32 +78,30 @@ fn claim(
 
 // The parts in a run, which stand in places of one kind.
 fn claim_run(
-    sheet: &Sheet,
+    sheet: &ReadSheet,
     marks: &mut [Mark],
     n: usize,
     parts: &[u16],
     place: Place,
 ) -> Result<(), Refusal>
-    requires known { n < length (held_by sheet.now).program.nodes }
-    requires granted { Granted (held_by sheet.now) }
-    requires long { length marks.old ≡ length (held_by sheet.now).program.nodes }
-    ensures said { Said result (λ _. marks.new) (claimed_all (held_by sheet.now) n (all (asked place) parts.now) marks.old) }
+    requires known { n < length (contents sheet.now).program.nodes }
+    requires long { length marks.old ≡ length (contents sheet.now).program.nodes }
+    ensures said { Said result (λ _. marks.new) (claimed_all (contents sheet.now) n (all (asked place) parts.now) marks.old) }
     ensures below { OnOk result (EachBelow n parts.now) }
 {
     for part in parts {
-        claim(sheet, marks, n, *part as usize, place)?;
+        claim(sheet, marks, n, *part, place)?;
     }
     Ok(())
 }
 
 // The parts of node `n`, left to right.
-fn claim_parts(sheet: &Sheet, marks: &mut [Mark], n: usize, node: Node) -> Result<(), Refusal>
-    requires known { n < length (held_by sheet.now).program.nodes }
-    requires granted { Granted (held_by sheet.now) }
-    requires sized { Sized (held_by sheet.now).program node }
-    requires long { length marks.old ≡ length (held_by sheet.now).program.nodes }
-    ensures said { Said result (λ _. marks.new) (claimed_all (held_by sheet.now) n (parts_in (held_by sheet.now).program node) marks.old) }
-    ensures below { OnOk result (PartsBelow (held_by sheet.now).program n node) }
+fn claim_parts(sheet: &ReadSheet, marks: &mut [Mark], n: usize, node: Node) -> Result<(), Refusal>
+    requires known { n < length (contents sheet.now).program.nodes }
+    requires sized { Sized (contents sheet.now).program node }
+    requires long { length marks.old ≡ length (contents sheet.now).program.nodes }
+    ensures said { Said result (λ _. marks.new) (claimed_all (contents sheet.now) n (parts_in (contents sheet.now).program node) marks.old) }
+    ensures below { OnOk result (PartsBelow (contents sheet.now).program n node) }
 {
     match node {
         Node::Number { .. }
@@ -121,20 +111,20 @@ fn claim_parts(sheet: &Sheet, marks: &mut [Mark], n: usize, node: Node) -> Resul
         | Node::Target { .. }
         | Node::Discard => Ok(()),
         Node::Element { array, index } => {
-            claim(sheet, marks, n, array as usize, Place::Expression)?;
-            claim(sheet, marks, n, index as usize, Place::Expression)?;
+            claim(sheet, marks, n, array, Place::Expression)?;
+            claim(sheet, marks, n, index, Place::Expression)?;
             Ok(())
         }
         Node::Binary { left, right, .. } => {
-            claim(sheet, marks, n, left as usize, Place::Expression)?;
-            claim(sheet, marks, n, right as usize, Place::Expression)?;
+            claim(sheet, marks, n, left, Place::Expression)?;
+            claim(sheet, marks, n, right, Place::Expression)?;
             Ok(())
         }
         Node::Length { array: part }
         | Node::Unary { operand: part, .. }
         | Node::DeclareValue { value: part, .. }
         | Node::Assign { value: part, .. } => {
-            claim(sheet, marks, n, part as usize, Place::Expression)?;
+            claim(sheet, marks, n, part, Place::Expression)?;
             Ok(())
         }
         Node::Constructor { elements: run, .. }
@@ -142,25 +132,25 @@ fn claim_parts(sheet: &Sheet, marks: &mut [Mark], n: usize, node: Node) -> Resul
         | Node::LibraryCall { arguments: run, .. }
         | Node::Declare { lengths: run, .. }
         | Node::Return { values: run } => {
-            claim_run(sheet, marks, n, entries(sheet, run), Place::Expression)
+            claim_run(sheet, marks, n, sheet.entries(run), Place::Expression)
         }
         Node::DeclareCall { call, targets } => {
-            claim(sheet, marks, n, call as usize, Place::Call)?;
-            claim_run(sheet, marks, n, entries(sheet, targets), Place::Target)
+            claim(sheet, marks, n, call, Place::Call)?;
+            claim_run(sheet, marks, n, sheet.entries(targets), Place::Target)
         }
         Node::AssignElement {
             array,
             index,
             value,
         } => {
-            claim(sheet, marks, n, array as usize, Place::Expression)?;
-            claim(sheet, marks, n, index as usize, Place::Expression)?;
-            claim(sheet, marks, n, value as usize, Place::Expression)?;
+            claim(sheet, marks, n, array, Place::Expression)?;
+            claim(sheet, marks, n, index, Place::Expression)?;
+            claim(sheet, marks, n, value, Place::Expression)?;
             Ok(())
         }
         Node::If { guard, then: body } | Node::While { guard, body } => {
-            claim(sheet, marks, n, guard as usize, Place::Expression)?;
-            claim(sheet, marks, n, body as usize, Place::Statement)?;
+            claim(sheet, marks, n, guard, Place::Expression)?;
+            claim(sheet, marks, n, body, Place::Statement)?;
             Ok(())
         }
         Node::IfElse {
@@ -168,35 +158,28 @@ fn claim_parts(sheet: &Sheet, marks: &mut [Mark], n: usize, node: Node) -> Resul
             then,
             otherwise,
         } => {
-            claim(sheet, marks, n, guard as usize, Place::Expression)?;
-            claim(sheet, marks, n, then as usize, Place::Statement)?;
-            claim(sheet, marks, n, otherwise as usize, Place::Statement)?;
+            claim(sheet, marks, n, guard, Place::Expression)?;
+            claim(sheet, marks, n, then, Place::Statement)?;
+            claim(sheet, marks, n, otherwise, Place::Statement)?;
             Ok(())
         }
         Node::CallStatement { call } => {
-            claim(sheet, marks, n, call as usize, Place::Call)?;
+            claim(sheet, marks, n, call, Place::Call)?;
             Ok(())
         }
         Node::Block { statements } => {
-            claim_run(
-                sheet,
-                marks,
-                n,
-                entries(sheet, statements),
-                Place::Statement,
-            )
+            claim_run(sheet, marks, n, sheet.entries(statements), Place::Statement)
         }
     }
 }
 
-pub(crate) fn claim_all(sheet: &Sheet, marks: &mut [Mark]) -> Result<(), Refusal>
-    requires granted { Granted (held_by sheet.now) }
-    requires long { length marks.old ≡ length (held_by sheet.now).program.nodes }
-    ensures said { Said result (λ _. marks.new) (nodes_claimed (held_by sheet.now) marks.old) }
-    ensures below { OnOk result (Falling (held_by sheet.now).program) }
+pub(crate) fn claim_all(sheet: &ReadSheet, marks: &mut [Mark]) -> Result<(), Refusal>
+    requires { length marks.old ≡ length (contents sheet.now).program.nodes }
+    ensures said { Said result (λ _. marks.new) (nodes_claimed (contents sheet.now) marks.old) }
+    ensures below { OnOk result (Falling (contents sheet.now).program) }
 {
-    for n in 0..node_count(sheet) {
-        claim_parts(sheet, marks, n, node_at(sheet, n))?;
+    for (n, node) in sheet.nodes().iter().enumerate() {
+        claim_parts(sheet, marks, n, *node)?;
     }
     Ok(())
 }
@@ -207,17 +190,14 @@ fn is_block(node: Node) -> bool
     matches!(node, Node::Block { .. })
 }
 
-// Notes the body of function `i`.
-fn claim_body(sheet: &Sheet, marks: &mut [Mark], i: usize) -> Result<(), Refusal>
-    requires known { i < length (held_by sheet.now).program.functions }
-    requires granted { Granted (held_by sheet.now) }
-    requires long { length marks.old ≡ length (held_by sheet.now).program.nodes }
-    ensures said { Said result (λ _. marks.new) (body_claimed (held_by sheet.now) i marks.old) }
-    ensures bodied { OnOk result ((function_at (held_by sheet.now).program i).body < length (held_by sheet.now).program.nodes) }
+// Notes that `body` is the body of a function whose record is at `at`.
+fn claim_body(sheet: &ReadSheet, marks: &mut [Mark], at: usize, body: u16) -> Result<(), Refusal>
+    requires { length marks.old ≡ length (contents sheet.now).program.nodes }
+    ensures said { Said result (λ _. marks.new) (claimed_as_body (contents sheet.now) body at marks.old) }
+    ensures bodied { OnOk result (body < length (contents sheet.now).program.nodes) }
 {
-    let at = function_place(sheet, i);
-    let body = function_at(sheet, i).body as usize;
-    if body >= node_count(sheet) || !is_block(node_at(sheet, body)) || !is_free(marks[body]) {
+    let body = body as usize;
+    if body >= sheet.nodes().len() || !is_block(sheet.node_at(body)) || marks[body] != Mark::Free {
         return Err(Refusal::Broken {
             rule: Rule::Tree,
             at,
@@ -227,14 +207,13 @@ fn claim_body(sheet: &Sheet, marks: &mut [Mark], i: usize) -> Result<(), Refusal
     Ok(())
 }
 
-pub(crate) fn claim_bodies(sheet: &Sheet, marks: &mut [Mark]) -> Result<(), Refusal>
-    requires granted { Granted (held_by sheet.now) }
-    requires long { length marks.old ≡ length (held_by sheet.now).program.nodes }
-    ensures said { Said result (λ _. marks.new) (bodies_claimed (held_by sheet.now) marks.old) }
-    ensures bodied { OnOk result (Bodied (held_by sheet.now).program) }
+pub(crate) fn claim_bodies(sheet: &ReadSheet, marks: &mut [Mark]) -> Result<(), Refusal>
+    requires { length marks.old ≡ length (contents sheet.now).program.nodes }
+    ensures said { Said result (λ _. marks.new) (bodies_claimed (contents sheet.now) marks.old) }
+    ensures bodied { OnOk result (Bodied (contents sheet.now).program) }
 {
-    for i in 0..function_count(sheet) {
-        claim_body(sheet, marks, i)?;
+    for record in sheet.functions() {
+        claim_body(sheet, marks, record.at, record.function.body)?;
     }
     Ok(())
 }

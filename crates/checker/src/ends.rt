@@ -1,40 +1,27 @@
 // Whether a statement ends with a return.
-ghost use Rattle.std.specs.Prelude.{◌≡◌, ℕ, ◌<◌, length};
+ghost use Rattle.std.specs.Prelude.{◌≡◌, ◌<◌, length, ℕ};
+ghost use Rattle.checker.specs.Contents.{contents};
 ghost use Rattle.checker.specs.Walk.{ends_of};
-ghost use Rattle.checker.specs.Facts.{Granted, Falling};
-ghost use Rattle.checker.specs.Held.{held_by};
 
-use crate::access::entries;
-use crate::nodes::statement_node;
-use sheet::sheet::Sheet;
+use crate::trees::Trees;
 use xi::node::Node;
 
 // A return ends, a block whose last entry ends, an `if` whose two parts end.
-pub(crate) fn ends(sheet: &Sheet, n: usize) -> bool
-    requires known { n < length (held_by sheet.now).program.nodes }
-    requires granted { Granted (held_by sheet.now) }
-    requires falling { Falling (held_by sheet.now).program }
-    ensures { result ≡ ends_of (held_by sheet.now).program n }
+pub(crate) fn ends(trees: &Trees, n: usize) -> bool
+    requires { n < length (contents trees.now.sheet).program.nodes }
+    ensures { result ≡ ends_of (contents trees.now.sheet).program n }
 {
-    match statement_node(sheet, n) {
+    match trees.statement_node(n) {
         Node::Return { .. } => true,
         Node::IfElse {
             then,
             otherwise,
             ..
-        } => {
-            if !ends(sheet, then as usize) {
-                return false;
-            }
-            ends(sheet, otherwise as usize)
-        }
-        Node::Block { statements } => {
-            let parts = entries(sheet, statements);
-            if parts.is_empty() {
-                return false;
-            }
-            ends(sheet, parts[parts.len() - 1] as usize)
-        }
+        } => ends(trees, then as usize) && ends(trees, otherwise as usize),
+        Node::Block { statements } => match trees.sheet.entries(statements) {
+            [.., last] => ends(trees, *last as usize),
+            [] => false,
+        },
         _ => false,
     }
 }

@@ -1,45 +1,40 @@
 // The types of expressions.
-ghost use Rattle.std.specs.Prelude.{◌≡◌, ℕ, ◌<◌, length, IfOk, OnOk};
+ghost use Rattle.std.specs.Prelude.{◌≡◌, length, IfOk, OnOk, ◌<◌, ℕ};
 ghost use Rattle.sheet.specs.Outcome.{Said};
 ghost use Rattle.xi.specs.Typing.{numbers_of};
+ghost use Rattle.checker.specs.Contents.{contents};
+ghost use Rattle.checker.specs.Facts.{EachBelow};
+ghost use Rattle.checker.specs.Scopes.{scope_of};
 ghost use Rattle.checker.specs.Trees.{offset_of};
 ghost use Rattle.checker.specs.Walk.{fitting, argued, type_of, call_of};
-ghost use Rattle.checker.specs.Facts.{Granted, Falling, EachBelow};
-ghost use Rattle.checker.specs.Held.{held_by};
-ghost use Rattle.checker.specs.Scopes.{scope_of};
 ghost use Rattle.checker.specs.Wants.{wanted_types};
 
-use crate::access::{entries, offset};
 use crate::library::{gives, takes};
-use crate::lookup::{function_named, parameters, results, variable};
-use crate::nodes::expression_node;
-use crate::operators::{BOOL, INT, INTS, binary, operands, unary};
+use crate::operators::{binary, operands, unary};
 use crate::scope::Scope;
+use crate::trees::Trees;
 use crate::wanted::Wanted;
-use crate::wanted::at::{each, is_wanted, wanted_count};
-use sheet::refusal::Refusal;
-use sheet::sheet::Sheet;
+use crate::wanted::at::{is_wanted, wanted_count};
+use sheet::refusal::{Refusal, hold};
 use xi::node::{Node, Ty};
 use xi::rule::Rule;
 
-// Whether the values of `parts`, which are parts of node `n`, have the types that are wanted.
+// Whether the values of the parts have the types that are wanted.
 #[cycle(arguments_call_expression_values)]
 pub(crate) fn values(
-    sheet: &Sheet,
-    scope: &Scope,
+    trees: &Trees,
     n: usize,
     parts: &[u16],
+    scope: &Scope,
     wanted: Wanted,
 ) -> Result<bool, Refusal>
-    requires known { n < length (held_by sheet.now).program.nodes }
-    requires granted { Granted (held_by sheet.now) }
-    requires falling { Falling (held_by sheet.now).program }
+    requires known { n < length (contents trees.now.sheet).program.nodes }
     requires below { EachBelow n parts.now }
-    ensures { Said result (λ b. b) (fitting (type_of (held_by sheet.now) (scope_of scope.now)) parts.now (wanted_types wanted.entry (length parts.now))) }
+    ensures { Said result (λ b. b) (fitting (type_of (contents trees.now.sheet) (scope_of scope.now)) parts.now (wanted_types wanted.entry (length parts.now))) }
 {
     let mut fit = true;
-    for i in 0..parts.len() {
-        let ty = expression(sheet, scope, parts[i] as usize)?;
+    for (i, part) in parts.iter().enumerate() {
+        let ty = expression(trees, *part as usize, scope)?;
         if !is_wanted(wanted, parts.len(), i, ty) {
             fit = false;
         }
@@ -47,82 +42,62 @@ pub(crate) fn values(
     Ok(fit)
 }
 
-// The arguments of the call `n`, of what gives so many results.
+// The arguments of a call of what gives so many results.
 #[cycle(arguments_call_expression_values)]
 fn arguments(
-    sheet: &Sheet,
-    scope: &Scope,
+    trees: &Trees,
     n: usize,
-    asked: usize,
     parts: &[u16],
+    scope: &Scope,
+    asked: usize,
     wanted: Wanted,
     results: usize,
 ) -> Result<(), Refusal>
-    requires known { n < length (held_by sheet.now).program.nodes }
-    requires granted { Granted (held_by sheet.now) }
-    requires falling { Falling (held_by sheet.now).program }
+    requires known { n < length (contents trees.now.sheet).program.nodes }
     requires below { EachBelow n parts.now }
-    ensures said { Said result (λ _. tt) (argued (type_of (held_by sheet.now) (scope_of scope.now)) parts.now asked (offset_of (held_by sheet.now) n) (wanted_types wanted.entry (length parts.now)) results) }
+    ensures said { Said result (λ _. tt) (argued (type_of (contents trees.now.sheet) (scope_of scope.now)) parts.now asked (offset_of (contents trees.now.sheet) n) (wanted_types wanted.entry (length parts.now)) results) }
     ensures many { OnOk result (results ≡ asked) }
 {
-    let at = offset(sheet, n);
-    if parts.len() != wanted_count(wanted, parts.len()) {
-        return Err(Refusal::Broken {
-            rule: Rule::Count,
-            at,
-        });
-    }
-    if results != asked {
-        return Err(Refusal::Broken {
-            rule: Rule::Count,
-            at,
-        });
-    }
-    if !values(sheet, scope, n, parts, wanted)? {
-        return Err(Refusal::Broken {
-            rule: Rule::Type,
-            at,
-        });
-    }
-    Ok(())
+    let at = trees.sheet.offset(n);
+    let count = parts.len();
+    hold(count == wanted_count(wanted, count), Rule::Count, at)?;
+    hold(results == asked, Rule::Count, at)?;
+    let fit = values(trees, n, parts, scope, wanted)?;
+    hold(fit, Rule::Type, at)
 }
 
-// The types of the results of the call `n`, where so many are asked.
+// The types of the results of a call, where so many are asked.
 #[cycle(arguments_call_expression_values)]
 pub(crate) fn call<'s>(
-    sheet: &'s Sheet,
-    scope: &Scope,
+    trees: &'s Trees,
     n: usize,
+    scope: &Scope,
     asked: usize,
 ) -> Result<&'s [Ty], Refusal>
-    requires known { n < length (held_by sheet.now).program.nodes }
-    requires granted { Granted (held_by sheet.now) }
-    requires falling { Falling (held_by sheet.now).program }
-    ensures said { Said result (λ ts. numbers_of ts.now) (call_of (held_by sheet.now) (scope_of scope.now) asked n) }
+    requires { n < length (contents trees.now.sheet).program.nodes }
+    ensures said { Said result (λ ts. numbers_of ts.now) (call_of (contents trees.now.sheet) (scope_of scope.now) asked n) }
     ensures many { IfOk result (λ ts. length ts.now ≡ asked) }
 {
-    let at = offset(sheet, n);
-    match expression_node(sheet, n) {
+    let at = trees.sheet.offset(n);
+    match trees.expression_node(n) {
         Node::Call {
             name,
             arguments: run,
         } => {
-            let Some(function) = function_named(sheet, name) else {
-                return Err(Refusal::Broken {
-                    rule: Rule::Unknown,
-                    at,
-                });
-            };
-            let wanted = Wanted::Parameters {
-                parameters: parameters(sheet, function),
-            };
-            let results = results(sheet, function);
+            let function = trees.sheet.function_named(name);
+            let function = function.ok_or(Refusal::Broken {
+                rule: Rule::Unknown,
+                at,
+            })?;
+            let parameters = trees.sheet.parameters(function);
+            let results = trees.sheet.results(function);
+            let wanted = Wanted::Parameters { parameters };
             arguments(
-                sheet,
-                scope,
+                trees,
                 n,
+                trees.sheet.entries(run),
+                scope,
                 asked,
-                entries(sheet, run),
                 wanted,
                 results.len(),
             )?;
@@ -132,16 +107,15 @@ pub(crate) fn call<'s>(
             function,
             arguments: run,
         } => {
-            let wanted = Wanted::Types {
-                types: takes(function),
-            };
+            let types = takes(function);
             let results = gives(function);
+            let wanted = Wanted::Types { types };
             arguments(
-                sheet,
-                scope,
+                trees,
                 n,
+                trees.sheet.entries(run),
+                scope,
                 asked,
-                entries(sheet, run),
                 wanted,
                 results.len(),
             )?;
@@ -154,45 +128,38 @@ pub(crate) fn call<'s>(
     }
 }
 
-// The type of the expression `n`.
+// The type of an expression.
 #[cycle(arguments_call_expression_values)]
-pub(crate) fn expression(sheet: &Sheet, scope: &Scope, n: usize) -> Result<Ty, Refusal>
-    requires known { n < length (held_by sheet.now).program.nodes }
-    requires granted { Granted (held_by sheet.now) }
-    requires falling { Falling (held_by sheet.now).program }
-    ensures { Said result (λ t. t.number) (type_of (held_by sheet.now) (scope_of scope.now) n) }
+pub(crate) fn expression(trees: &Trees, n: usize, scope: &Scope) -> Result<Ty, Refusal>
+    requires { n < length (contents trees.now.sheet).program.nodes }
+    ensures { Said result (λ t. t.number) (type_of (contents trees.now.sheet) (scope_of scope.now) n) }
 {
-    let at = offset(sheet, n);
-    match expression_node(sheet, n) {
-        Node::Number { .. } => Ok(INT),
-        Node::Truth { .. } => Ok(BOOL),
-        Node::Text { .. } => Ok(INTS),
-        Node::Variable { name } => match variable(sheet, scope, name) {
-            Some(ty) => Ok(ty),
-            None => Err(Refusal::Broken {
-                rule: Rule::Unknown,
-                at,
-            }),
-        },
+    let at = trees.sheet.offset(n);
+    match trees.expression_node(n) {
+        Node::Number { .. } => Ok(Ty::INT),
+        Node::Truth { .. } => Ok(Ty::BOOL),
+        Node::Text { .. } => Ok(Ty::INTS),
+        Node::Variable { name } => trees.sheet.variable(scope, name).ok_or(Refusal::Broken {
+            rule: Rule::Unknown,
+            at,
+        }),
         Node::Element { array, index } => {
-            let array = expression(sheet, scope, array as usize)?;
-            let index = expression(sheet, scope, index as usize)?;
-            if array.number < 2 || index.number != 0 {
-                return Err(Refusal::Broken {
+            let array = expression(trees, array as usize, scope)?;
+            let index = expression(trees, index as usize, scope)?;
+            match array.element() {
+                Some(element) if index == Ty::INT => Ok(element),
+                _ => Err(Refusal::Broken {
                     rule: Rule::Type,
                     at,
-                });
+                }),
             }
-            Ok(Ty {
-                number: array.number - 2,
-            })
         }
         Node::Length { array } => {
-            let array = expression(sheet, scope, array as usize)?;
-            operands(array.number >= 2, at, INT)
+            let array = expression(trees, array as usize, scope)?;
+            operands(array.element().is_some(), at, Ty::INT)
         }
         Node::Unary { operator, operand } => {
-            let operand = expression(sheet, scope, operand as usize)?;
+            let operand = expression(trees, operand as usize, scope)?;
             unary(operator, operand, at)
         }
         Node::Binary {
@@ -200,22 +167,22 @@ pub(crate) fn expression(sheet: &Sheet, scope: &Scope, n: usize) -> Result<Ty, R
             left,
             right,
         } => {
-            let left = expression(sheet, scope, left as usize)?;
-            let right = expression(sheet, scope, right as usize)?;
+            let left = expression(trees, left as usize, scope)?;
+            let right = expression(trees, right as usize, scope)?;
             binary(operator, left, right, at)
         }
         Node::Constructor { element, elements } => {
-            let fit = values(sheet, scope, n, entries(sheet, elements), each(element))?;
-            operands(
-                fit,
-                at,
-                Ty {
-                    number: element.number + 2,
-                },
-            )
+            let fit = values(
+                trees,
+                n,
+                trees.sheet.entries(elements),
+                scope,
+                Wanted::Each { ty: element },
+            )?;
+            operands(fit, at, element.array())
         }
         Node::Call { .. } | Node::LibraryCall { .. } => {
-            let results = call(sheet, scope, n, 1)?;
+            let results = call(trees, n, scope, 1)?;
             Ok(results[0])
         }
         _ => Err(Refusal::Broken {

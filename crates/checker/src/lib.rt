@@ -1,7 +1,6 @@
 // Checks a syntax sheet: from bytes to a sheet that obeys every rule, or to the first rule that it breaks.
 #![tactic(auto)]
 
-mod access;
 mod bodies;
 pub mod checked;
 mod claims;
@@ -9,15 +8,15 @@ mod declarations;
 mod ends;
 mod expressions;
 mod library;
-mod lookup;
 mod main_function;
 mod mark;
 mod named;
 mod names;
-mod nodes;
 mod operators;
 mod place;
+mod read_sheet;
 mod scope;
 mod statements;
 mod tree;
+mod trees;
 mod wanted;

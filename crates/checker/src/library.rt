@@ -9,11 +9,11 @@ pub(crate) fn takes(function: LibraryFunction) -> &'static [Ty]
 {
     match function {
         LibraryFunction::Print | LibraryFunction::Println | LibraryFunction::ParseInt => {
-            &[Ty { number: 2 }]
+            &[Ty::INTS]
         }
         LibraryFunction::Readln | LibraryFunction::Getchar | LibraryFunction::Eof => &[],
-        LibraryFunction::UnparseInt => &[Ty { number: 0 }],
-        LibraryFunction::Ratio => &[Ty { number: 0 }, Ty { number: 0 }],
+        LibraryFunction::UnparseInt => &[Ty::INT],
+        LibraryFunction::Ratio => &[Ty::INT, Ty::INT],
     }
 }
 
@@ -22,9 +22,9 @@ pub(crate) fn gives(function: LibraryFunction) -> &'static [Ty]
 {
     match function {
         LibraryFunction::Print | LibraryFunction::Println => &[],
-        LibraryFunction::Readln | LibraryFunction::UnparseInt => &[Ty { number: 2 }],
-        LibraryFunction::Getchar | LibraryFunction::Ratio => &[Ty { number: 0 }],
-        LibraryFunction::Eof => &[Ty { number: 1 }],
-        LibraryFunction::ParseInt => &[Ty { number: 0 }, Ty { number: 1 }],
+        LibraryFunction::Readln | LibraryFunction::UnparseInt => &[Ty::INTS],
+        LibraryFunction::Getchar | LibraryFunction::Ratio => &[Ty::INT],
+        LibraryFunction::Eof => &[Ty::BOOL],
+        LibraryFunction::ParseInt => &[Ty::INT, Ty::BOOL],
     }
 }

@@ -1,5 +1,5 @@
 // Where a node stands in the tree.
-#[derive(Clone, Copy)]
+#[derive(Clone, Copy, PartialEq, Eq)]
 pub(crate) enum Mark {
     // nowhere so far
     Free,

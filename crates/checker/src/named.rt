@@ -1,8 +1,11 @@
 // Things with a name.
-ghost use Rattle.std.specs.Prelude.{◌≡◌, ℕ, List};
-ghost use Rattle.checker.specs.Checked.{has_name, global_name, function_name, parameter_name};
+ghost use Rattle.std.specs.Prelude.{◌≡◌, ◌==◌, ℕ};
+ghost use Rattle.std.specs.List.{position_from};
+ghost use Rattle.checker.specs.Checked.{has_name, global_name, parameter_name};
+ghost use Rattle.checker.specs.Repeats.{record_name, repeated};
 
-use xi::program::{Function, GlobalVariable, Parameter};
+use sheet::functions::FunctionRecord;
+use xi::program::{GlobalVariable, Parameter};
 
 pub(crate) trait Named {
     ghost name: { Self → ℕ };
@@ -19,11 +22,11 @@ impl Named for GlobalVariable {
     }
 }
 
-impl Named for Function {
-    ghost name = { function_name };
+impl Named for FunctionRecord {
+    ghost name = { record_name };
 
     fn name_number(&self) -> u16 {
-        self.name
+        self.function.name
     }
 }
 
@@ -39,10 +42,24 @@ impl Named for Parameter {
 pub(crate) fn has_name<T: Named>(items: &[T], name: u16) -> bool
     ensures { result ≡ has_name T.Named.name items.now name }
 {
-    for item in items {
-        if item.name_number() == name {
-            return true;
+    items.iter().any(|item| item.name_number() == name)
+}
+
+// The number of the first item of that name. There are at most 64 items, so a map would cost more than the search.
+pub(crate) fn number_of<T: Named>(items: &[T], name: u16) -> Option<usize>
+    ensures { result ≡ position_from (λ item. T.Named.name item == name) 0 items.now }
+{
+    items.iter().position(|item| item.name_number() == name)
+}
+
+// The number of the first item that has the name of an earlier one.
+pub(crate) fn repeated<T: Named>(items: &[T]) -> Option<usize>
+    ensures { result ≡ repeated T.Named.name items.now }
+{
+    for (i, item) in items.iter().enumerate() {
+        if has_name(&items[..i], item.name_number()) {
+            return Some(i);
         }
     }
-    false
+    None
 }

@@ -7,7 +7,7 @@ pub(crate) mod names;
 
 #[derive(Clone, Copy)]
 pub(crate) struct Scope {
-    // the oldest first
+    // the oldest first; of fixed size beside its length, so that a scope is copied for a block and dropped with it
     names: [Parameter; 64],
     len: usize,
     ghost fits: { len ≤ 64 },

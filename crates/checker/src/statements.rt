@@ -1,124 +1,115 @@
 // Statements and blocks: each takes the scope before it, and gives the scope behind it.
-ghost use Rattle.std.specs.Prelude.{◌≡◌, ℕ, ◌<◌, length};
+ghost use Rattle.std.specs.Prelude.{◌≡◌, ◌<◌, length, ℕ};
 ghost use Rattle.sheet.specs.Outcome.{Said};
 ghost use Rattle.xi.specs.Typing.{numbers_of};
+ghost use Rattle.checker.specs.Contents.{contents};
+ghost use Rattle.checker.specs.Facts.{EachBelow};
+ghost use Rattle.checker.specs.Scopes.{scope_of};
 ghost use Rattle.checker.specs.Trees.{offset_of};
 ghost use Rattle.checker.specs.Walk.{assigned, element_assigned, returned, after_all, after_of, type_of};
-ghost use Rattle.checker.specs.Facts.{Granted, Falling, EachBelow};
-ghost use Rattle.checker.specs.Held.{held_by};
-ghost use Rattle.checker.specs.Scopes.{scope_of};
 
-use crate::access::{entries, offset};
 use crate::declarations::{declare_call, declare_lengths, declare_value};
 use crate::expressions::{call, expression, values};
-use crate::lookup::variable;
-use crate::nodes::statement_node;
-use crate::operators::hold;
 use crate::scope::Scope;
+use crate::trees::Trees;
 use crate::wanted::Wanted;
-use sheet::refusal::Refusal;
-use sheet::sheet::Sheet;
+use sheet::refusal::{Refusal, hold};
 use xi::node::{Node, Ty};
+use xi::program::Parameter;
 use xi::rule::Rule;
 
-// The assignment `n` of node `value` to the variable of that name.
-fn assign(sheet: &Sheet, scope: &Scope, n: usize, name: u16, value: usize) -> Result<(), Refusal>
-    requires known { n < length (held_by sheet.now).program.nodes }
-    requires granted { Granted (held_by sheet.now) }
-    requires falling { Falling (held_by sheet.now).program }
-    requires below { value < n }
-    ensures { Said result (λ _. tt) (assigned (type_of (held_by sheet.now) (scope_of scope.now)) (held_by sheet.now).program (scope_of scope.now) (offset_of (held_by sheet.now) n) name value) }
+// The assignment of part `value` to the variable of that name.
+fn assign(trees: &Trees, n: usize, scope: &Scope, name: u16, value: u16) -> Result<(), Refusal>
+    requires known { n < length (contents trees.now.sheet).program.nodes }
+    requires part { value < n }
+    ensures { Said result (λ _. tt) (assigned (type_of (contents trees.now.sheet) (scope_of scope.now)) (contents trees.now.sheet).program (scope_of scope.now) (offset_of (contents trees.now.sheet) n) name value) }
 {
-    let at = offset(sheet, n);
-    let given = expression(sheet, scope, value)?;
-    match variable(sheet, scope, name) {
-        Some(ty) => hold(given.number == ty.number, Rule::Type, at),
-        None => Err(Refusal::Broken {
-            rule: Rule::Unknown,
-            at,
-        }),
-    }
+    let at = trees.sheet.offset(n);
+    let given = expression(trees, value as usize, scope)?;
+    let ty = trees.sheet.variable(scope, name).ok_or(Refusal::Broken {
+        rule: Rule::Unknown,
+        at,
+    })?;
+    hold(given == ty, Rule::Type, at)
 }
 
-// The assignment `n` of node `value` to an element of an array.
+// The assignment of part `value` to an element of an array.
 fn assign_element(
-    sheet: &Sheet,
-    scope: &Scope,
+    trees: &Trees,
     n: usize,
-    array: usize,
-    index: usize,
-    value: usize,
+    scope: &Scope,
+    array: u16,
+    index: u16,
+    value: u16,
 ) -> Result<(), Refusal>
-    requires known { n < length (held_by sheet.now).program.nodes }
-    requires granted { Granted (held_by sheet.now) }
-    requires falling { Falling (held_by sheet.now).program }
+    requires known { n < length (contents trees.now.sheet).program.nodes }
     requires arrays { array < n }
     requires indices { index < n }
     requires values { value < n }
-    ensures { Said result (λ _. tt) (element_assigned (type_of (held_by sheet.now) (scope_of scope.now)) (offset_of (held_by sheet.now) n) array index value) }
+    ensures { Said result (λ _. tt) (element_assigned (type_of (contents trees.now.sheet) (scope_of scope.now)) (offset_of (contents trees.now.sheet) n) array index value) }
 {
-    let at = offset(sheet, n);
-    let array = expression(sheet, scope, array)?;
-    let index = expression(sheet, scope, index)?;
-    let value = expression(sheet, scope, value)?;
-    if array.number < 2 || index.number != 0 || array.number - 2 != value.number {
-        return Err(Refusal::Broken {
-            rule: Rule::Type,
-            at,
-        });
-    }
-    Ok(())
+    let array = expression(trees, array as usize, scope)?;
+    let index = expression(trees, index as usize, scope)?;
+    let value = expression(trees, value as usize, scope)?;
+    let fit = index == Ty::INT && array.element() == Some(value);
+    hold(fit, Rule::Type, trees.sheet.offset(n))
 }
 
-// The return `n` of the values in a run. `last` says whether it is the last entry of a block.
+// A return of the values of the parts. `last` says whether it is the last entry of a block.
 fn give_back(
-    sheet: &Sheet,
+    trees: &Trees,
+    n: usize,
+    parts: &[u16],
     owed: &[Ty],
     scope: &Scope,
-    n: usize,
     last: bool,
-    parts: &[u16],
 ) -> Result<(), Refusal>
-    requires known { n < length (held_by sheet.now).program.nodes }
-    requires granted { Granted (held_by sheet.now) }
-    requires falling { Falling (held_by sheet.now).program }
+    requires known { n < length (contents trees.now.sheet).program.nodes }
     requires below { EachBelow n parts.now }
-    ensures { Said result (λ _. tt) (returned (type_of (held_by sheet.now) (scope_of scope.now)) (numbers_of owed.now) last (offset_of (held_by sheet.now) n) parts.now) }
+    ensures { Said result (λ _. tt) (returned (type_of (contents trees.now.sheet) (scope_of scope.now)) (numbers_of owed.now) last (offset_of (contents trees.now.sheet) n) parts.now) }
 {
-    let at = offset(sheet, n);
-    let fit = values(sheet, scope, n, parts, Wanted::Types { types: owed })?;
+    let at = trees.sheet.offset(n);
+    let fit = values(trees, n, parts, scope, Wanted::Types { types: owed })?;
     hold(parts.len() == owed.len(), Rule::Count, at)?;
     hold(fit, Rule::Type, at)?;
     hold(last, Rule::Return, at)
 }
 
-// The scope behind the statement `n` of a function that owes such results. `last` says whether it is the last entry of a block.
+// The scope behind a statement of a function that owes such results. `last` says whether it is the last entry of a block.
 #[cycle(block_statement)]
 pub(crate) fn statement(
-    sheet: &Sheet,
+    trees: &Trees,
+    n: usize,
     owed: &[Ty],
     scope: Scope,
-    n: usize,
     last: bool,
 ) -> Result<Scope, Refusal>
-    requires known { n < length (held_by sheet.now).program.nodes }
-    requires granted { Granted (held_by sheet.now) }
-    requires falling { Falling (held_by sheet.now).program }
-    ensures { Said result scope_of (after_of (held_by sheet.now) (numbers_of owed.now) last (scope_of scope) n) }
+    requires { n < length (contents trees.now.sheet).program.nodes }
+    ensures { Said result scope_of (after_of (contents trees.now.sheet) (numbers_of owed.now) last (scope_of scope) n) }
 {
-    let at = offset(sheet, n);
-    match statement_node(sheet, n) {
+    let at = trees.sheet.offset(n);
+    match trees.statement_node(n) {
         Node::Declare { name, ty, lengths } => {
-            declare_lengths(sheet, scope, n, name, ty, entries(sheet, lengths))
+            declare_lengths(
+                trees,
+                n,
+                trees.sheet.entries(lengths),
+                scope,
+                Parameter { name, ty },
+            )
         }
         Node::DeclareValue { name, ty, value } => {
-            declare_value(sheet, scope, n, name, ty, value as usize)
+            declare_value(trees, n, scope, Parameter { name, ty }, value)
         }
-        Node::DeclareCall { call, targets } => {
-            declare_call(sheet, scope, n, call as usize, entries(sheet, targets))
-        }
+        Node::DeclareCall { call, targets } => declare_call(
+            trees,
+            n,
+            trees.sheet.entries(targets),
+            scope,
+            call,
+        ),
         Node::Assign { name, value } => {
-            assign(sheet, &scope, n, name, value as usize)?;
+            assign(trees, n, &scope, name, value)?;
             Ok(scope)
         }
         Node::AssignElement {
@@ -126,20 +117,13 @@ pub(crate) fn statement(
             index,
             value,
         } => {
-            assign_element(
-                sheet,
-                &scope,
-                n,
-                array as usize,
-                index as usize,
-                value as usize,
-            )?;
+            assign_element(trees, n, &scope, array, index, value)?;
             Ok(scope)
         }
         Node::If { guard, then: body } | Node::While { guard, body } => {
-            let guard = expression(sheet, &scope, guard as usize)?;
-            statement(sheet, owed, scope, body as usize, false)?;
-            hold(guard.number == 1, Rule::Type, at)?;
+            let guard = expression(trees, guard as usize, &scope)?;
+            statement(trees, body as usize, owed, scope, false)?;
+            hold(guard == Ty::BOOL, Rule::Type, at)?;
             Ok(scope)
         }
         Node::IfElse {
@@ -147,22 +131,22 @@ pub(crate) fn statement(
             then,
             otherwise,
         } => {
-            let guard = expression(sheet, &scope, guard as usize)?;
-            statement(sheet, owed, scope, then as usize, false)?;
-            statement(sheet, owed, scope, otherwise as usize, false)?;
-            hold(guard.number == 1, Rule::Type, at)?;
+            let guard = expression(trees, guard as usize, &scope)?;
+            statement(trees, then as usize, owed, scope, false)?;
+            statement(trees, otherwise as usize, owed, scope, false)?;
+            hold(guard == Ty::BOOL, Rule::Type, at)?;
             Ok(scope)
         }
         Node::Return { values } => {
-            give_back(sheet, owed, &scope, n, last, entries(sheet, values))?;
+            give_back(trees, n, trees.sheet.entries(values), owed, &scope, last)?;
             Ok(scope)
         }
         Node::CallStatement { call: callee } => {
-            call(sheet, &scope, callee as usize, 0)?;
+            call(trees, callee as usize, &scope, 0)?;
             Ok(scope)
         }
         Node::Block { statements } => {
-            block(sheet, owed, scope, n, entries(sheet, statements))?;
+            block(trees, n, trees.sheet.entries(statements), owed, scope)?;
             Ok(scope)
         }
         _ => Err(Refusal::Broken {
@@ -172,24 +156,22 @@ pub(crate) fn statement(
     }
 }
 
-// The entries of the block `n`, one after another.
+// The entries of a block, one after another.
 #[cycle(block_statement)]
 fn block(
-    sheet: &Sheet,
-    owed: &[Ty],
-    mut scope: Scope,
+    trees: &Trees,
     n: usize,
     parts: &[u16],
+    owed: &[Ty],
+    mut scope: Scope,
 ) -> Result<Scope, Refusal>
-    requires known { n < length (held_by sheet.now).program.nodes }
-    requires granted { Granted (held_by sheet.now) }
-    requires falling { Falling (held_by sheet.now).program }
+    requires known { n < length (contents trees.now.sheet).program.nodes }
     requires below { EachBelow n parts.now }
-    ensures { Said result scope_of (after_all (after_of (held_by sheet.now) (numbers_of owed.now)) parts.now (scope_of scope)) }
+    ensures { Said result scope_of (after_all (after_of (contents trees.now.sheet) (numbers_of owed.now)) parts.now (scope_of scope)) }
 {
-    for i in 0..parts.len() {
+    for (i, part) in parts.iter().enumerate() {
         let last = i + 1 == parts.len();
-        scope = statement(sheet, owed, scope, parts[i] as usize, last)?;
+        scope = statement(trees, *part as usize, owed, scope, last)?;
     }
     Ok(scope)
 }

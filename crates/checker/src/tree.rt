@@ -1,34 +1,31 @@
 // The nodes of a sheet form trees: each is a part of one node or the body of one function, and none lies too deep.
-ghost use Rattle.std.specs.Prelude.{◌≡◌, ℕ, ◌+◌, ◌*◌, ◌<◌, ◌≤◌, length, replicate, OnOk};
+ghost use Rattle.std.specs.Prelude.{◌≡◌, length, replicate, IfOk, OnOk};
 ghost use Rattle.sheet.specs.Outcome.{Said};
-ghost use Rattle.checker.specs.Trees.{all_used, deeper, level_by, levels, all_shallow, levels_held, tree_of};
-ghost use Rattle.checker.specs.Facts.{Granted, Falling, Bodied};
-ghost use Rattle.checker.specs.Held.{held_by};
+ghost use Rattle.checker.specs.Trees.{all_used, deeper, level_by, levels, all_shallow, tree_of};
+ghost use Rattle.checker.specs.Contents.{contents};
+ghost use Rattle.checker.specs.Facts.{Falling, Bodied};
 ghost use Rattle.checker.specs.declared.mark.Mark.TheVariants.{Free};
 
-use crate::access::{node_count, offset};
-use crate::claims::{claim_all, claim_bodies, is_free};
+use crate::claims::{claim_all, claim_bodies};
 use crate::mark::Mark;
+use crate::read_sheet::ReadSheet;
+use crate::trees::Trees;
 use sheet::refusal::Refusal;
-use sheet::sheet::Sheet;
 use std::alloc::Global;
 use xi::rule::Rule;
 
 // Each node is a part or a body.
-fn all_used(sheet: &Sheet, marks: &[Mark]) -> Result<(), Refusal>
-    requires granted { Granted (held_by sheet.now) }
-    requires long { length marks.now ≡ length (held_by sheet.now).program.nodes }
-    ensures { Said result (λ _. tt) (all_used (held_by sheet.now) marks.now) }
+fn all_used(sheet: &ReadSheet, marks: &[Mark]) -> Result<(), Refusal>
+    requires { length marks.now ≡ length (contents sheet.now).program.nodes }
+    ensures { Said result (λ _. tt) (all_used (contents sheet.now) marks.now) }
 {
-    for n in 0..node_count(sheet) {
-        if is_free(marks[n]) {
-            return Err(Refusal::Broken {
-                rule: Rule::Tree,
-                at: offset(sheet, n),
-            });
-        }
+    match marks.iter().position(|mark| *mark == Mark::Free) {
+        None => Ok(()),
+        Some(n) => Err(Refusal::Broken {
+            rule: Rule::Tree,
+            at: sheet.offset(n),
+        }),
     }
-    Ok(())
 }
 
 // The level below `level`. What is too deep stays at 33.
@@ -55,44 +52,38 @@ fn level_of(mark: Mark, levels: &[u8]) -> u8
     }
 }
 
-// A node is above its parts in number, so the levels are found from the last node down.
+// A node is above its parts in number, so the levels are found from the last node down; each is written where later ones are read.
 fn find_levels(marks: &[Mark], found: &mut [u8])
     requires { length found.old ≡ length marks.now }
     ensures { found.new ≡ levels marks.now (length marks.now) found.old }
 {
-    let mut n = marks.len();
-    while n > 0 {
-        n -= 1;
+    for n in (0..marks.len()).rev() {
         found[n] = level_of(marks[n], found);
     }
 }
 
-fn all_shallow(sheet: &Sheet, found: &[u8]) -> Result<(), Refusal>
-    requires granted { Granted (held_by sheet.now) }
-    requires long { length found.now ≡ length (held_by sheet.now).program.nodes }
-    ensures { Said result (λ _. tt) (all_shallow (held_by sheet.now) found.now) }
+fn all_shallow(sheet: &ReadSheet, found: &[u8]) -> Result<(), Refusal>
+    requires { length found.now ≡ length (contents sheet.now).program.nodes }
+    ensures { Said result (λ _. tt) (all_shallow (contents sheet.now) found.now) }
 {
-    for n in 0..node_count(sheet) {
-        if found[n] > 32 {
-            return Err(Refusal::Broken {
-                rule: Rule::Tree,
-                at: offset(sheet, n),
-            });
-        }
+    match found.iter().position(|level| *level > 32) {
+        None => Ok(()),
+        Some(n) => Err(Refusal::Broken {
+            rule: Rule::Tree,
+            at: sheet.offset(n),
+        }),
     }
-    Ok(())
 }
 
 // The tests over marks and levels, one for each node.
-fn tree_by(sheet: &Sheet, marks: &mut [Mark], found: &mut [u8]) -> Result<(), Refusal>
-    requires granted { Granted (held_by sheet.now) }
-    requires unmarked { marks.old ≡ replicate (length (held_by sheet.now).program.nodes) Free }
-    requires unfound { found.old ≡ replicate (length (held_by sheet.now).program.nodes) 0 }
-    requires long { length marks.old ≡ length (held_by sheet.now).program.nodes }
-    requires wide { length found.old ≡ length (held_by sheet.now).program.nodes }
-    ensures said { Said result (λ _. tt) (tree_of (held_by sheet.now)) }
-    ensures below { OnOk result (Falling (held_by sheet.now).program) }
-    ensures bodied { OnOk result (Bodied (held_by sheet.now).program) }
+fn tree_by(sheet: &ReadSheet, marks: &mut [Mark], found: &mut [u8]) -> Result<(), Refusal>
+    requires unmarked { marks.old ≡ replicate (length (contents sheet.now).program.nodes) Free }
+    requires unfound { found.old ≡ replicate (length (contents sheet.now).program.nodes) 0 }
+    requires long { length marks.old ≡ length (contents sheet.now).program.nodes }
+    requires wide { length found.old ≡ length (contents sheet.now).program.nodes }
+    ensures said { Said result (λ _. tt) (tree_of (contents sheet.now)) }
+    ensures below { OnOk result (Falling (contents sheet.now).program) }
+    ensures bodied { OnOk result (Bodied (contents sheet.now).program) }
 {
     claim_all(sheet, marks)?;
     claim_bodies(sheet, marks)?;
@@ -101,14 +92,14 @@ fn tree_by(sheet: &Sheet, marks: &mut [Mark], found: &mut [u8]) -> Result<(), Re
     all_shallow(sheet, found)
 }
 
-pub(crate) fn tree(heap: Global, sheet: &Sheet) -> Result<(), Refusal>
-    requires granted { Granted (held_by sheet.now) }
-    ensures said { Said result (λ _. tt) (tree_of (held_by sheet.now)) }
-    ensures below { OnOk result (Falling (held_by sheet.now).program) }
-    ensures bodied { OnOk result (Bodied (held_by sheet.now).program) }
+// The sheet's nodes form trees, or break a rule of the tree.
+pub(crate) fn tree<'a>(heap: Global, sheet: ReadSheet<'a>) -> Result<Trees<'a>, Refusal>
+    ensures said { Said result (λ _. tt) (tree_of (contents sheet.entry)) }
+    ensures same { IfOk result (λ t. t.sheet ≡ sheet.entry) }
 {
-    let count = node_count(sheet);
+    let count = sheet.nodes().len();
     let mut marks = vec![in heap; Mark::Free; count]?;
     let mut found = vec![in heap; 0u8; count]?;
-    tree_by(sheet, &mut marks, &mut found)
+    tree_by(&sheet, &mut marks, &mut found)?;
+    Ok(Trees { sheet })
 }

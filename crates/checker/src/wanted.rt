@@ -4,6 +4,7 @@ use xi::program::Parameter;
 
 pub(crate) mod at;
 
+// An enum and no closure: there are these three, and the functions that check values call each other, so a type parameter would go round.
 #[derive(Clone, Copy)]
 pub(crate) enum Wanted<'s> {
     // each has this type

@@ -1,18 +1,15 @@
 -- The reading of one pair of hexadecimal digits more.
-use Rattle.std.proofs.Common.{◌≡◌, ℕ, suc, ◌+◌, ◌-◌, ◌<◌, List, [], ◌∷◌, ◌++◌, Some, None, sym, ap, ◌∙◌, arith}
-use Rattle.report.specs.Hexadecimal.{pair_of, with, pairs_from}
+use Rattle.std.proofs.Common.{◌≡◌, ℕ, suc, ◌-◌, ◌≤◌, List, [], ◌∷◌, ◌++◌, length, take, drop, get_or, Some, sym, ap, ◌∙◌, arith}
+use Rattle.std.proofs.lemmas.List.{take_all}
+use Rattle.report.specs.Hexadecimal.{digit_of, joined, with, pairs_after}
 
-module _ (t : List ℕ) (n i : ℕ) (bs : List ℕ) (more : i < n) where
-  one_more : n - i ≡ suc (n - (i + 1))
-  one_more = omega arith
-
-  here : pairs_from t (n - i) i bs ≡ with (pair_of t i) (λ b. pairs_from t (n - (i + 1)) (i + 1) (bs ++ b ∷ []))
-  here = ap (λ m. pairs_from t m i bs) one_more
-
-  pub no-pair : pair_of t i ≡ None → pairs_from t (n - i) i bs ≡ None
-  no-pair e = here ∙ ap (λ o. with o (λ b. pairs_from t (n - (i + 1)) (i + 1) (bs ++ b ∷ []))) e
-
-  pub next-pair : (b : ℕ) (cs : List ℕ) → pair_of t i ≡ Some b → cs ≡ bs ++ b ∷ [] → pairs_from t (n - (i + 1)) (i + 1) cs ≡ pairs_from t (n - i) i bs
-  next-pair b cs e f =
-      ap (pairs_from t (n - (i + 1)) (i + 1)) f
-      ∙ sym (here ∙ ap (λ o. with o (λ b. pairs_from t (n - (i + 1)) (i + 1) (bs ++ b ∷ []))) e)
+-- xs begins with a pair that says b, and bs and b make cs
+pub next-pair : (xs bs cs : List ℕ) (b : ℕ) → 2 ≤ length xs → joined (digit_of (get_or xs 0 0)) (digit_of (get_or xs 1 0)) ≡ Some b → cs ≡ bs ++ b ∷ [] → pairs_after cs (take (length xs - 2) (drop 2 xs)) ≡ pairs_after bs xs
+next-pair [] bs cs b h e f = absurd (omega arith)
+next-pair (x ∷ []) bs cs b h e f = absurd (omega arith)
+next-pair (x ∷ y ∷ t) bs cs b h e f =
+    let n : suc (suc (length t)) - 2 ≡ length t = omega arith in
+    ap (λ m. pairs_after cs (take m t)) n
+    ∙ ap (pairs_after cs) (take_all (length t) t (omega arith))
+    ∙ ap (λ l. pairs_after l t) f
+    ∙ sym (ap (λ o. with o (λ c. pairs_after (bs ++ c ∷ []) t)) e)

@@ -1,5 +1,6 @@
 -- Bytes written as hexadecimal digits.
-use Rattle.std.specs.Prelude.{ℕ, zero, suc, ◌+◌, ◌-◌, ◌*◌, ◌/◌, ◌%◌, cond, ◌&&◌, List, [], ◌∷◌, ◌++◌, length, Some, None, Option, ◌==◌, nat_le, slice_index}
+use Rattle.std.specs.Prelude.{ℕ, ◌+◌, ◌-◌, ◌*◌, cond, ◌&&◌, List, [], ◌∷◌, ◌++◌, Some, None, Option, codes, nat_le}
+use Rattle.std.specs.Str.{bytes_eq}
 
 abbrev pub digit_of : ℕ → Option ℕ
 digit_of c =
@@ -12,21 +13,16 @@ joined None l = None
 joined (Some h) None = None
 joined (Some h) (Some l) = Some (h * 16 + l)
 
--- the byte that pair i of the digits says
-abbrev pub pair_of : List ℕ → ℕ → Option ℕ
-pair_of t i = joined (digit_of (slice_index t (2 * i))) (digit_of (slice_index t (2 * i + 1)))
-
 abbrev pub with : Option ℕ → (ℕ → Option (List ℕ)) → Option (List ℕ)
 with None f = None
 with (Some b) f = f b
 
--- the bytes that n pairs from pair i on say, after those of bs
-abbrev pub pairs_from : List ℕ → ℕ → ℕ → List ℕ → Option (List ℕ)
-pairs_from t zero i bs = Some bs
-pairs_from t (suc n) i bs = with (pair_of t i) (λ b. pairs_from t n (i + 1) (bs ++ b ∷ []))
+-- the bytes that pairs of digits say, after those of bs; one digit alone says none
+abbrev pub pairs_after : List ℕ → List ℕ → Option (List ℕ)
+pairs_after bs [] = Some bs
+pairs_after bs (h ∷ []) = None
+pairs_after bs (h ∷ l ∷ t) = with (joined (digit_of h) (digit_of l)) (λ b. pairs_after (bs ++ b ∷ []) t)
 
 -- the bytes that pairs of digits say; `-` says no bytes
 abbrev pub bytes_of : List ℕ → Option (List ℕ)
-bytes_of t =
-    cond (length t == 1 && slice_index t 0 == 45) (Some [])
-    (cond (length t % 2 == 1) None (pairs_from t (length t / 2) 0 []))
+bytes_of t = cond (bytes_eq t (codes "-")) (Some []) (pairs_after [] t)

@@ -1,33 +1,17 @@
 -- What `sheetrun` prints.
-use Rattle.std.specs.Prelude.{◌≡◌, ℕ, min, cond, List, [], ◌∷◌, ◌++◌, length, take, codes, decimal, nat_lt}
-use Rattle.xi.specs.declared.rule.Rule.{Rule}
-use Rattle.xi.specs.Numbers.{rule_number}
+use Rattle.std.specs.Prelude.{ℕ, min, cond, List, [], ◌∷◌, length, take, nat_lt}
 use Rattle.xi.specs.Program.{Program}
-use Rattle.sheet.specs.declared.refusal.Refusal.{Refusal}
-use Rattle.sheet.specs.declared.refusal.Refusal.TheVariants.{Memory, Broken}
 use Rattle.sheet.specs.Outcome.{Outcome, good, bad}
 use Rattle.sheet.specs.Fields.{quad}
 use Rattle.sheet.specs.Sheets.{Decoded}
 use Rattle.checker.specs.Checked.{checked_at}
-
--- numbers with a space before each, and then r
-abbrev pub spaced : List ℕ → List ℕ → List ℕ
-spaced [] r = r
-spaced (n ∷ ns) r = codes " " ++ (decimal n ++ spaced ns r)
-
-abbrev pub refused_text : Rule → ℕ → List ℕ
-refused_text k p = codes "= refused" ++ spaced (rule_number k ∷ p ∷ []) (codes "\n")
+use Rattle.report.specs.Lines.{refused_text, counted_text}
 
 abbrev pub counts : Program → List ℕ
 counts P = length P.names ∷ length P.constants ∷ length P.entries ∷ length P.nodes ∷ length P.globals ∷ length P.functions ∷ []
 
 abbrev pub checked_text : Program → List ℕ
-checked_text P = codes "= checked" ++ spaced (counts P) (codes "\n")
-
--- the text is the line for the refusal; want of memory has none
-abbrev pub Refused : Refusal → List ℕ → Type 0
-Refused Memory t = ⊥
-Refused (Broken k p) t = t ≡ refused_text k p
+checked_text P = counted_text (counts P)
 
 -- how many bytes of the input are the sheet: as many as it states, all where it states more or has no stated length
 abbrev pub sheet_length : List ℕ → ℕ

@@ -1,28 +1,23 @@
 // Bytes written as hexadecimal digits.
-ghost use Rattle.std.specs.Prelude.{◌≡◌, ℕ, ◌+◌, ◌*◌, ◌<◌, length, IfOk, vec_items};
+ghost use Rattle.std.specs.Prelude.{◌≡◌, IfOk, vec_items};
 ghost use Rattle.std.specs.Option.{option_map};
-ghost use Rattle.report.specs.Hexadecimal.{digit_of, pair_of, bytes_of};
+ghost use Rattle.report.specs.Hexadecimal.{digit_of, joined, bytes_of};
 
 use std::alloc::{AllocError, Global};
 
 fn digit(c: u8) -> Option<u8>
     ensures { result ≡ digit_of c }
 {
-    match c {
-        b'0'..=b'9' => Some(c - b'0'),
-        b'a'..=b'f' => Some(c - b'a' + 10),
-        b'A'..=b'F' => Some(c - b'A' + 10),
-        _ => None,
-    }
+    let digit = char::from(c).to_digit(16)?;
+    Some(digit as u8)
 }
 
-// The byte that pair `i` of the digits says.
-fn pair(text: &[u8], i: usize) -> Option<u8>
-    requires { 2 * i + 1 < length text.now }
-    ensures { result ≡ pair_of text.now i }
+// The byte that two digits say.
+fn pair(high: u8, low: u8) -> Option<u8>
+    ensures { result ≡ joined (digit_of high) (digit_of low) }
 {
-    let high = digit(text[2 * i])?;
-    let low = digit(text[2 * i + 1])?;
+    let high = digit(high)?;
+    let low = digit(low)?;
     Some(high * 16 + low)
 }
 
@@ -31,17 +26,20 @@ pub fn bytes(heap: Global, text: &[u8]) -> Result<Option<Vec<u8>>, AllocError>
     ensures { IfOk result (λ o. option_map vec_items o ≡ bytes_of text.now) }
 {
     let mut all = Vec::new(heap);
-    if text.len() == 1 && text[0] == b'-' {
+    if text == b"-".as_slice() {
         return Ok(Some(all));
     }
-    if text.len() % 2 == 1 {
-        return Ok(None);
-    }
-    for i in 0..text.len() / 2 {
-        let Some(byte) = pair(text, i) else {
+    let mut rest = text;
+    while let [high, low, others @ ..] = rest {
+        let Some(byte) = pair(*high, *low) else {
             return Ok(None);
         };
         all.push(byte)?;
+        rest = others;
     }
-    Ok(Some(all))
+    if rest.is_empty() {
+        Ok(Some(all))
+    } else {
+        Ok(None)
+    }
 }

@@ -2,4 +2,5 @@
 #![tactic(auto)]
 
 pub mod hexadecimal;
+pub mod reply;
 pub mod sheetrun;

@@ -1,5 +1,4 @@
 pub mod Outcomes
 pub mod Steps
-pub mod Named
-pub mod NodeKinds
+pub mod Items
 pub mod Decoding

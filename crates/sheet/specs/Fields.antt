@@ -1,7 +1,8 @@
 -- The fields of a sheet, by their place in its bytes.
-use Rattle.std.specs.Prelude.{ℕ, ◌+◌, ◌*◌, cond, List, [], ◌∷◌, ◌++◌, length, take, drop, ℤ, nat_le, nat_lt, slice_index}
+use Rattle.std.specs.Prelude.{ℕ, zero, suc, ◌+◌, ◌*◌, cond, List, [], ◌∷◌, ◌++◌, length, take, drop, ℤ, nat_le, nat_lt, slice_index}
 use Rattle.std.specs.Int.{w64}
 use Rattle.std.proofs.Common.{to_z}
+use Rattle.xi.specs.declared.node.Ty.{Ty}
 use Rattle.xi.specs.declared.rule.Rule.TheVariants.{Bytes, Range}
 use Rattle.sheet.specs.Outcome.{Outcome, good, bad, then, held, runs}
 
@@ -18,6 +19,14 @@ eight w i = quad w i * 4294967296 + quad w (i + 4)
 
 abbrev pub signed_at : List ℕ → ℕ → ℤ
 signed_at w i = to_z w64 (eight w i)
+
+-- the name in the two bytes from i on of an item at p, where there are n names
+abbrev pub name_in : ℕ → ℕ → List ℕ → ℕ → Outcome ℕ
+name_in n p w i = then (held (nat_lt (pair w i) n) Range p) (λ _. good (pair w i))
+
+-- the type in the byte i of an item at p
+abbrev pub type_in : ℕ → List ℕ → ℕ → Outcome Ty
+type_in p w i = then (held (nat_le (slice_index w i) 9) Range p) (λ _. good (record { number = slice_index w i }))
 
 -- the n bytes from p on
 abbrev pub span_at : List ℕ → ℕ → ℕ → Outcome (List ℕ)
@@ -46,3 +55,8 @@ item_of n reads bs s = then (span_at bs s.1 n) (λ w. then (reads s.1 w) (λ x. 
 -- a part whose items all have n bytes
 abbrev pub items_at : {A : Type 0} → ℕ → (ℕ → List ℕ → Outcome A) → ℕ → List ℕ → ℕ → Outcome (List A × ℕ)
 items_at n reads m bs p = part_at (item_of n reads) (λ q. ([], q)) m bs p
+
+-- m items of n bytes each, one after another at the front of the bytes w, behind those of xs; what `reads` refuses, it refuses at p
+abbrev pub items_in : {A : Type 0} → ℕ → (ℕ → List ℕ → Outcome A) → ℕ → ℕ → List ℕ → List A → Outcome (List A)
+items_in n reads p zero w xs = good xs
+items_in n reads p (suc m) w xs = then (reads p (take n w)) (λ x. items_in n reads p m (drop n w) (xs ++ x ∷ []))

@@ -5,7 +5,7 @@ use Rattle.xi.specs.declared.program.Parameter.{Parameter}
 use Rattle.xi.specs.declared.program.Function.{Function}
 use Rattle.xi.specs.declared.rule.Rule.TheVariants.{Range}
 use Rattle.sheet.specs.Outcome.{Outcome, good, then, held, runs}
-use Rattle.sheet.specs.Fields.{pair, span_at, byte_at, part_at}
+use Rattle.sheet.specs.Fields.{pair, name_in, type_in, span_at, byte_at, part_at}
 
 -- the functions, the offset of each, and all parameters and results one after another
 pub record FunctionList : Type 0 where
@@ -16,6 +16,13 @@ pub record FunctionList : Type 0 where
 
 abbrev pub listed : List Function → List ℕ → List Parameter → List Ty → FunctionList
 listed fs qs ps ts = record { records = fs; places = qs; parameters = ps; results = ts }
+
+-- the parameter in three bytes, and the result in one, of the record at p, where there are n names
+abbrev pub parameter_reads : ℕ → ℕ → List ℕ → Outcome Parameter
+parameter_reads n p w = then (name_in n p w 0) (λ x. then (type_in p w 2) (λ t. good (record { name = x; ty = t })))
+
+abbrev pub result_reads : ℕ → List ℕ → Outcome Ty
+result_reads p w = type_in p w 0
 
 -- the parameter at i of the record w, which is at p, after those of ps, where there are n names
 abbrev pub parameter_item : ℕ → List ℕ → ℕ → ℕ → List Parameter → Outcome (List Parameter)

@@ -1,57 +1,22 @@
 -- The nodes of a sheet: what the fields of a node stand for.
-use Rattle.std.specs.Prelude.{ℕ, ◌+◌, ◌/◌, Bool, true, false, cond, ◌&&◌, List, [], ◌∷◌, length, take, drop, ℤ, pos, negsuc, Some, None, Option, ◌==◌, nat_le, nat_lt, slice_index}
+use Rattle.std.specs.Prelude.{ℕ, ◌+◌, ◌/◌, Bool, true, false, cond, ◌&&◌, List, length, take, drop, ℤ, pos, negsuc, Some, None, Option, ◌==◌, nat_le, nat_lt, slice_index}
+use Rattle.std.specs.List.{list_all}
 use Rattle.xi.specs.declared.node.Node.{Node}
 use Rattle.xi.specs.declared.node.Node.TheVariants.{Number, Truth, Text, Variable, Element, Length, Unary, Binary, Constructor, Call, LibraryCall, Declare, DeclareValue, DeclareCall, Assign, AssignElement, If, IfElse, While, Return, CallStatement, Target, Discard, Block}
-use Rattle.xi.specs.declared.node.Operator.{Operator}
-use Rattle.xi.specs.declared.node.Operator.TheVariants.{Add, Subtract, Multiply, Divide, Remainder, Less, LessEqual, Greater, GreaterEqual, Equal, NotEqual, And, Or}
-use Rattle.xi.specs.declared.node.UnaryOperator.{UnaryOperator}
-use Rattle.xi.specs.declared.node.UnaryOperator.TheVariants.{Minus, Not}
-use Rattle.xi.specs.declared.node.LibraryFunction.{LibraryFunction}
-use Rattle.xi.specs.declared.node.LibraryFunction.TheVariants.{Print, Println, Readln, Getchar, Eof, ParseInt, UnparseInt, Ratio}
 use Rattle.xi.specs.declared.node.Run.{Run}
 use Rattle.xi.specs.declared.node.Ty.{Ty}
 use Rattle.xi.specs.declared.rule.Rule.TheVariants.{Range}
+use Rattle.xi.specs.Codes.{unary_of, operator_of, library_of}
 use Rattle.sheet.specs.declared.nodes.RawNode.{RawNode}
 use Rattle.sheet.specs.Outcome.{Outcome, good, bad}
 use Rattle.sheet.specs.Fields.{pair}
-
-abbrev pub unary_of : ℕ → Option UnaryOperator
-unary_of s = cond (s == 1) (Some Minus) (cond (s == 2) (Some Not) None)
-
-abbrev pub operator_of : ℕ → Option Operator
-operator_of s =
-    cond (s == 1) (Some Add)
-    (cond (s == 2) (Some Subtract)
-    (cond (s == 3) (Some Multiply)
-    (cond (s == 4) (Some Divide)
-    (cond (s == 5) (Some Remainder)
-    (cond (s == 6) (Some Less)
-    (cond (s == 7) (Some LessEqual)
-    (cond (s == 8) (Some Greater)
-    (cond (s == 9) (Some GreaterEqual)
-    (cond (s == 10) (Some Equal)
-    (cond (s == 11) (Some NotEqual)
-    (cond (s == 12) (Some And)
-    (cond (s == 13) (Some Or) None))))))))))))
-
-abbrev pub library_of : ℕ → Option LibraryFunction
-library_of s =
-    cond (s == 1) (Some Print)
-    (cond (s == 2) (Some Println)
-    (cond (s == 3) (Some Readln)
-    (cond (s == 4) (Some Getchar)
-    (cond (s == 5) (Some Eof)
-    (cond (s == 6) (Some ParseInt)
-    (cond (s == 7) (Some UnparseInt)
-    (cond (s == 8) (Some Ratio) None)))))))
 
 abbrev pub is_character : ℤ → Bool
 is_character (pos n) = nat_le n 1114111
 is_character (negsuc n) = false
 
 abbrev pub are_characters : List ℤ → Bool
-are_characters [] = true
-are_characters (c ∷ cs) = is_character c && are_characters cs
+are_characters cs = list_all is_character cs
 
 -- the c constants from b on are a text
 abbrev pub is_text : List ℤ → ℕ → ℕ → Bool

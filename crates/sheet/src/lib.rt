@@ -9,3 +9,4 @@ pub mod nodes;
 pub mod reader;
 pub mod refusal;
 pub mod sheet;
+pub mod span;

@@ -1,12 +1,16 @@
 // The names of a sheet.
 ghost use Rattle.std.specs.Prelude.{◌≡◌, ℕ, ◌+◌, ◌<◌, ◌≤◌, [], map, length};
 ghost use Rattle.sheet.specs.Outcome.{Said};
-ghost use Rattle.sheet.specs.Names.{stands, identifier_from, among, reserved, nameable, name_item, names_at};
+ghost use Rattle.sheet.specs.Names.{stands, identifier_from, among, nameable, name_item, names_at};
 
 use crate::reader::Reader;
-use crate::refusal::Refusal;
+use crate::refusal::{Refusal, hold};
 use std::alloc::Global;
 use xi::rule::Rule;
+
+const RESERVED: [&[u8]; 10] = [
+    b"use", b"if", b"while", b"else", b"return", b"length", b"int", b"bool", b"true", b"false",
+];
 
 fn may_stand(i: usize, b: u8) -> bool
     ensures { result ≡ stands i b }
@@ -32,21 +36,13 @@ fn is_identifier(w: &[u8]) -> bool
 fn is_among(w: &[u8], words: &[&[u8]]) -> bool
     ensures { result ≡ among w.now (map (λ v. v.now) words.now) }
 {
-    for v in words {
-        if *v == w {
-            return true;
-        }
-    }
-    false
+    words.contains(&w)
 }
 
-fn is_reserved(w: &[u8]) -> bool
-    ensures { result ≡ among w.now reserved }
+fn is_nameable(w: &[u8], names: &[&[u8]]) -> bool
+    ensures { result ≡ nameable w.now (map (λ v. v.now) names.now) }
 {
-    let words: [&[u8]; 10] = [
-        b"use", b"if", b"while", b"else", b"return", b"length", b"int", b"bool", b"true", b"false",
-    ];
-    is_among(w, &words)
+    is_identifier(w) && !is_among(w, &RESERVED) && !is_among(w, names)
 }
 
 // One name more.
@@ -54,20 +50,10 @@ fn name<'a>(r: &mut Reader<'a>, names: &mut Vec<&'a [u8]>) -> Result<(), Refusal
     ensures said { Said result (λ _. (map (λ v. v.now) names.new.items, r.new.at)) (name_item r.old.bytes.now (map (λ v. v.now) names.old.items, r.old.at)) }
     ensures same { r.new.bytes.now ≡ r.old.bytes.now }
 {
-    let at = r.place();
-    let w = r.text()?;
-    if w.is_empty() || w.len() > 32 {
-        return Err(Refusal::Broken {
-            rule: Rule::Range,
-            at,
-        });
-    }
-    if !is_identifier(w) || is_reserved(w) || is_among(w, names) {
-        return Err(Refusal::Broken {
-            rule: Rule::Name,
-            at,
-        });
-    }
+    let text = r.text()?;
+    let w = text.bytes;
+    text.in_range((1..=32).contains(&w.len()))?;
+    hold(is_nameable(w, names), Rule::Name, text.at)?;
     names.push(w)?;
     Ok(())
 }

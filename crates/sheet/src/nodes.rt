@@ -1,14 +1,14 @@
 // The nodes of a sheet.
 ghost use Rattle.std.specs.Prelude.{◌≡◌, ℕ, ◌+◌, ◌^◌, ◌<◌, ◌≤◌, length};
-ghost use Rattle.sheet.specs.Nodes.{operator_of, library_of, is_character, are_characters, is_text, unary_of, leaf_of, run_within, operation_of, collection_of, declaration_of, statement_of, target_or_block_of, node_of, node_reads};
+ghost use Rattle.sheet.specs.Nodes.{are_characters, is_text, raw_of, leaf_of, run_within, operation_of, collection_of, declaration_of, statement_of, target_or_block_of, node_of, node_reads};
 
 use crate::item::{Item, Known};
-use crate::reader::pair;
 use crate::refusal::Refusal;
+use crate::span::Span;
 use xi::node::{LibraryFunction, Node, Operator, Run, Ty, UnaryOperator};
-use xi::rule::Rule;
 
 // The fields of a node as they stand in a sheet.
+// The kind is the format's own number, met here alone: an enum of kinds would be the cases of `Node` once more.
 #[derive(Clone, Copy)]
 pub(crate) struct RawNode {
     pub kind: u8,
@@ -18,81 +18,35 @@ pub(crate) struct RawNode {
     pub c: u16,
 }
 
-fn unary_operator(s: u8) -> Option<UnaryOperator>
-    ensures { result ≡ unary_of s }
-{
-    match s {
-        1 => Some(UnaryOperator::Minus),
-        2 => Some(UnaryOperator::Not),
-        _ => None,
-    }
-}
-
-fn operator(s: u8) -> Option<Operator>
-    ensures { result ≡ operator_of s }
-{
-    match s {
-        1 => Some(Operator::Add),
-        2 => Some(Operator::Subtract),
-        3 => Some(Operator::Multiply),
-        4 => Some(Operator::Divide),
-        5 => Some(Operator::Remainder),
-        6 => Some(Operator::Less),
-        7 => Some(Operator::LessEqual),
-        8 => Some(Operator::Greater),
-        9 => Some(Operator::GreaterEqual),
-        10 => Some(Operator::Equal),
-        11 => Some(Operator::NotEqual),
-        12 => Some(Operator::And),
-        13 => Some(Operator::Or),
-        _ => None,
-    }
-}
-
-fn library_function(s: u8) -> Option<LibraryFunction>
-    ensures { result ≡ library_of s }
-{
-    match s {
-        1 => Some(LibraryFunction::Print),
-        2 => Some(LibraryFunction::Println),
-        3 => Some(LibraryFunction::Readln),
-        4 => Some(LibraryFunction::Getchar),
-        5 => Some(LibraryFunction::Eof),
-        6 => Some(LibraryFunction::ParseInt),
-        7 => Some(LibraryFunction::UnparseInt),
-        8 => Some(LibraryFunction::Ratio),
-        _ => None,
-    }
-}
-
-fn is_character(c: i64) -> bool
-    ensures { result ≡ is_character c }
-{
-    0 <= c && c <= 1_114_111
-}
-
 fn are_characters(text: &[i64]) -> bool
     ensures { result ≡ are_characters text.now }
 {
-    for c in text {
-        if !is_character(*c) {
-            return false;
-        }
-    }
-    true
+    text.iter().all(|c| (0..=1_114_111).contains(c))
 }
 
 // The run of constants is a text of at most 255 characters.
-fn is_text(constants: &[i64], first: usize, count: usize) -> bool
-    requires { first + count < 2 ^ 64 }
-    ensures { result ≡ is_text constants.now first count }
+fn is_text(constants: &[i64], run: Run) -> bool
+    ensures { result ≡ is_text constants.now run.first run.count }
 {
-    count <= 255
-        && first + count <= constants.len()
-        && are_characters(&constants[first..first + count])
+    run.count <= 255
+        && run.first as usize + run.count as usize <= constants.len()
+        && are_characters(run.of(constants))
 }
 
 impl RawNode {
+    fn of(span: Span) -> RawNode
+        requires { length span.bytes.now ≡ 8 }
+        ensures { result ≡ raw_of span.entry.bytes.now }
+    {
+        RawNode {
+            kind: span.bytes[0],
+            s: span.bytes[1],
+            a: span.pair(2),
+            b: span.pair(4),
+            c: span.pair(6),
+        }
+    }
+
     fn run(self) -> Run
         ensures { result ≡ record { first = self.b; count = self.c } }
     {
@@ -112,12 +66,10 @@ impl RawNode {
                 Node::Number { constant: a },
             ),
             2 if s == 0 && b == 0 && c == 0 && a <= 1 => Some(Node::Truth { value: a == 1 }),
-            3 if s == 0 && a == 0 && is_text(known.constants, b as usize, c as usize) => Some(
-                Node::Text {
-                    characters: self.run(),
-                },
-            ),
-            4 if s == 0 && b == 0 && c == 0 && (a as usize) < known.names => Some(Node::Variable {
+            3 if s == 0 && a == 0 && is_text(known.constants, self.run()) => Some(Node::Text {
+                characters: self.run(),
+            }),
+            4 if s == 0 && b == 0 && c == 0 && known.has_name(a) => Some(Node::Variable {
                 name: a,
             }),
             _ => None,
@@ -140,11 +92,11 @@ impl RawNode {
             5 if s == 0 && c == 0 => Some(Node::Element { array: a, index: b }),
             6 if s == 0 && b == 0 && c == 0 => Some(Node::Length { array: a }),
             7 if b == 0 && c == 0 => Some(Node::Unary {
-                operator: unary_operator(s)?,
+                operator: UnaryOperator::try_from(s).ok()?,
                 operand: a,
             }),
             8 if c == 0 => Some(Node::Binary {
-                operator: operator(s)?,
+                operator: Operator::try_from(s).ok()?,
                 left: a,
                 right: b,
             }),
@@ -160,18 +112,18 @@ impl RawNode {
         match kind {
             9 if s <= 7 && a == 0 && self.run_within(16, known.entries) => Some(
                 Node::Constructor {
-                    element: Ty { number: s },
+                    element: Ty::try_from(s).ok()?,
                     elements: self.run(),
                 },
             ),
-            10 if s == 0 && (a as usize) < known.names && self.run_within(8, known.entries) => Some(
+            10 if s == 0 && known.has_name(a) && self.run_within(8, known.entries) => Some(
                 Node::Call {
                     name: a,
                     arguments: self.run(),
                 },
             ),
             11 if a == 0 && self.run_within(8, known.entries) => Some(Node::LibraryCall {
-                function: library_function(s)?,
+                function: LibraryFunction::try_from(s).ok()?,
                 arguments: self.run(),
             }),
             _ => None,
@@ -183,18 +135,18 @@ impl RawNode {
         ensures { result ≡ declaration_of known.entry.names known.entry.entries self }
     {
         let RawNode { kind, s, a, b, c } = self;
-        let named = (a as usize) < known.names;
+        let named = known.has_name(a);
         match kind {
-            20 if s <= 9 && named && self.run_within(u16::from(s / 2), known.entries) => Some(
+            20 if named && self.run_within(u16::from(s / 2), known.entries) => Some(
                 Node::Declare {
                     name: a,
-                    ty: Ty { number: s },
+                    ty: Ty::try_from(s).ok()?,
                     lengths: self.run(),
                 },
             ),
-            21 if s <= 9 && named && c == 0 => Some(Node::DeclareValue {
+            21 if named && c == 0 => Some(Node::DeclareValue {
                 name: a,
-                ty: Ty { number: s },
+                ty: Ty::try_from(s).ok()?,
                 value: b,
             }),
             22 if s == 0 && c > 0 && self.run_within(8, known.entries) => Some(Node::DeclareCall {
@@ -214,7 +166,7 @@ impl RawNode {
             return None;
         }
         match kind {
-            23 if (a as usize) < known.names && c == 0 => Some(Node::Assign { name: a, value: b }),
+            23 if known.has_name(a) && c == 0 => Some(Node::Assign { name: a, value: b }),
             24 => Some(Node::AssignElement {
                 array: a,
                 index: b,
@@ -241,9 +193,9 @@ impl RawNode {
     {
         let RawNode { kind, s, a, b, c } = self;
         match kind {
-            30 if s <= 9 && (a as usize) < known.names && b == 0 && c == 0 => Some(Node::Target {
+            30 if known.has_name(a) && b == 0 && c == 0 => Some(Node::Target {
                 name: a,
-                ty: Ty { number: s },
+                ty: Ty::try_from(s).ok()?,
             }),
             31 if s == 0 && a == 0 && b == 0 && c == 0 => Some(Node::Discard),
             32 if s == 0 && a == 0 && self.run_within(255, known.entries) => Some(Node::Block {
@@ -269,28 +221,13 @@ impl RawNode {
 }
 
 impl Item for Node {
-    ghost size = { 8 };
+    ghost SIZE = { 8 };
 
-    ghost reads = { node_reads };
+    ghost reads = { λ k. node_reads k.names k.constants.now k.entries };
 
-    fn size() -> usize {
-        8
-    }
+    const SIZE: usize = 8;
 
-    fn read(known: Known, at: usize, w: &[u8]) -> Result<Node, Refusal> {
-        let raw = RawNode {
-            kind: w[0],
-            s: w[1],
-            a: pair(w, 2),
-            b: pair(w, 4),
-            c: pair(w, 6),
-        };
-        match raw.node(known) {
-            Some(node) => Ok(node),
-            None => Err(Refusal::Broken {
-                rule: Rule::Range,
-                at,
-            }),
-        }
+    fn read(known: Known, span: Span) -> Result<Node, Refusal> {
+        RawNode::of(span).node(known).ok_or(span.out_of_range())
     }
 }

@@ -1,11 +1,13 @@
 // Reads a sheet front to back. A refusal lies at the reader's place, the first byte of the count or item being read.
-ghost use Rattle.std.specs.Prelude.{◌≡◌, ℕ, ◌+◌, ◌*◌, ◌<◌, ◌≤◌, length, IfOk};
+ghost use Rattle.std.specs.Prelude.{◌≡◌, ◌+◌, ◌≤◌, length, drop, IfOk};
 ghost use Rattle.sheet.specs.Outcome.{Said, Moved};
-ghost use Rattle.sheet.specs.Fields.{pair, quad, eight, span_at, byte_at, text_at, count_at};
+ghost use Rattle.sheet.specs.Fields.{span_at, byte_at, text_at, count_at};
 
-use crate::refusal::Refusal;
+use crate::refusal::{Refusal, hold};
+use crate::span::Span;
 use xi::rule::Rule;
 
+// All bytes and a place, and not the bytes left alone: what a sheet stands for is said of all its bytes.
 #[derive(Drop)]
 pub struct Reader<'a> {
     bytes: &'a [u8],
@@ -13,37 +15,12 @@ pub struct Reader<'a> {
     ghost within: { at ≤ length bytes.now },
 }
 
-// The number in two bytes.
-pub(crate) fn pair(w: &[u8], i: usize) -> u16
-    requires { i + 2 ≤ length w.now }
-    ensures { result ≡ pair w.now i }
-{
-    u16::from(w[i]) * 256 + u16::from(w[i + 1])
-}
-
-// The number in four bytes.
-pub(crate) fn quad(w: &[u8], i: usize) -> u32
-    requires { i + 4 ≤ length w.now }
-    ensures { result ≡ quad w.now i }
-{
-    u32::from(pair(w, i)) * 65536 + u32::from(pair(w, i + 2))
-}
-
-// The number in eight bytes.
-pub(crate) fn eight(w: &[u8], i: usize) -> u64
-    requires { i + 8 ≤ length w.now }
-    ensures { result ≡ eight w.now i }
-{
-    u64::from(quad(w, i)) * 4_294_967_296 + u64::from(quad(w, i + 4))
-}
-
 impl<'a> Reader<'a> {
-    // A reader behind the head, which is the first five bytes.
-    pub(crate) fn behind_head(bytes: &'a [u8]) -> Reader<'a>
-        requires { 5 ≤ length bytes.now }
-        ensures { (result.bytes.now ≡ bytes.now) × (result.at ≡ 5) }
+    pub(crate) fn new(bytes: &'a [u8]) -> Reader<'a>
+        ensures bytes { result.bytes.now ≡ bytes.now }
+        ensures at { result.at ≡ 0 }
     {
-        Reader { bytes, at: 5 }
+        Reader { bytes, at: 0 }
     }
 
     pub(crate) fn place(&self) -> usize
@@ -52,55 +29,50 @@ impl<'a> Reader<'a> {
         self.at
     }
 
+    fn rest(&self) -> &'a [u8]
+        ensures { result.now ≡ drop self.now.at self.now.bytes.now }
+    {
+        &self.bytes[self.at..]
+    }
+
     // The byte `k` places on.
     pub(crate) fn peek(&self, k: usize) -> Result<u8, Refusal>
         ensures { Said result (λ v. v) (byte_at self.now.bytes.now self.now.at k) }
     {
-        if k >= self.bytes.len() - self.at {
-            return Err(Refusal::Broken {
-                rule: Rule::Bytes,
-                at: self.at,
-            });
-        }
-        Ok(self.bytes[self.at + k])
+        self.rest().get(k).copied().ok_or(Refusal::Broken {
+            rule: Rule::Bytes,
+            at: self.at,
+        })
     }
 
     // The next `n` bytes.
-    pub(crate) fn span(&mut self, n: usize) -> Result<&'a [u8], Refusal>
-        ensures said { Said result (λ w. w.now) (span_at self.old.bytes.now self.old.at n) }
+    pub(crate) fn span(&mut self, n: usize) -> Result<Span<'a>, Refusal>
+        ensures said { Said result (λ w. w.bytes.now) (span_at self.old.bytes.now self.old.at n) }
         ensures same { self.new.bytes.now ≡ self.old.bytes.now }
         ensures moved { Moved result self.old.at n self.new.at }
-        ensures long { IfOk result (λ w. length w.now ≡ n) }
+        ensures long { IfOk result (λ w. length w.bytes.now ≡ n) }
+        ensures at { IfOk result (λ w. w.at ≡ self.old.at) }
     {
-        let start = self.at;
-        if n > self.bytes.len() - start {
-            return Err(Refusal::Broken {
-                rule: Rule::Bytes,
-                at: start,
-            });
-        }
-        let end = start + n;
-        self.at = end;
-        Ok(&self.bytes[start..end])
+        let rest = self.rest();
+        let at = self.at;
+        hold(n <= rest.len(), Rule::Bytes, at)?;
+        self.at += n;
+        Ok(Span {
+            bytes: &rest[..n],
+            at,
+        })
     }
 
     // The bytes behind a byte that says how many they are.
-    pub(crate) fn text(&mut self) -> Result<&'a [u8], Refusal>
-        ensures said { Said result (λ w. w.now) (text_at self.old.bytes.now self.old.at) }
+    pub(crate) fn text(&mut self) -> Result<Span<'a>, Refusal>
+        ensures said { Said result (λ w. w.bytes.now) (text_at self.old.bytes.now self.old.at) }
         ensures same { self.new.bytes.now ≡ self.old.bytes.now }
-        ensures moved { IfOk result (λ w. self.new.at ≡ self.old.at + (1 + length w.now)) }
+        ensures moved { IfOk result (λ w. self.new.at ≡ self.old.at + (1 + length w.bytes.now)) }
+        ensures at { IfOk result (λ w. w.at ≡ self.old.at) }
     {
-        let start = self.at;
         let n = self.peek(0)? as usize;
-        if n + 1 > self.bytes.len() - start {
-            return Err(Refusal::Broken {
-                rule: Rule::Bytes,
-                at: start,
-            });
-        }
-        let end = start + 1 + n;
-        self.at = end;
-        Ok(&self.bytes[start + 1..end])
+        let span = self.span(1 + n)?;
+        Ok(span.part(1, n))
     }
 
     // A count of items, of which there may be `most`.
@@ -110,14 +82,9 @@ impl<'a> Reader<'a> {
         ensures moved { Moved result self.old.at 2 self.new.at }
         ensures few { IfOk result (λ n. n ≤ most) }
     {
-        let at = self.at;
-        let n = pair(self.span(2)?, 0);
-        if n > most {
-            return Err(Refusal::Broken {
-                rule: Rule::Range,
-                at,
-            });
-        }
+        let span = self.span(2)?;
+        let n = span.pair(0);
+        span.in_range(n <= most)?;
         Ok(n)
     }
 }

@@ -1,11 +1,12 @@
 // Why a sheet is refused.
 ghost use Rattle.std.specs.Prelude.{◌≡◌};
 ghost use Rattle.sheet.specs.declared.refusal.Refusal.TheVariants.{Memory};
+ghost use Rattle.sheet.specs.Outcome.{Said, held};
 
 use std::alloc::{AllocError, AllocFailed};
 use xi::rule::Rule;
 
-#[derive(Clone, Copy)]
+#[derive(Clone, Copy, PartialEq, Eq, Debug)]
 pub enum Refusal {
     // want of memory: nothing is said of the sheet
     Memory,
@@ -26,5 +27,16 @@ impl<T: Drop> From<AllocFailed<T>> for Refusal {
 
     fn from(_e: AllocFailed<T>) -> Refusal {
         Refusal::Memory
+    }
+}
+
+// The rule holds at that offset, or is broken there.
+pub fn hold(holds: bool, rule: Rule, at: usize) -> Result<(), Refusal>
+    ensures { Said result (λ _. tt) (held holds rule at) }
+{
+    if holds {
+        Ok(())
+    } else {
+        Err(Refusal::Broken { rule, at })
     }
 }

@@ -5,7 +5,8 @@ use xi::program::GlobalVariable;
 
 pub mod decode;
 
-// The names are parts of the bytes that the sheet was read from.
+// The names are parts of the bytes that the sheet was read from. Nodes name each other by number, and are no boxes: a stop gives the number of its
+// node, and a run keeps nodes in lent words.
 #[derive(Drop)]
 pub struct Sheet<'a> {
     pub names: Vec<&'a [u8]>,

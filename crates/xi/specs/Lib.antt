@@ -3,3 +3,4 @@ pub mod Program
 pub mod Tree
 pub mod Typing
 pub mod Obeys
+pub mod Codes

@@ -2,48 +2,36 @@
 ghost use Rattle.std.specs.Prelude.{◌≡◌};
 ghost use Rattle.xi.specs.Numbers.{rule_number};
 
-#[derive(Clone, Copy, PartialEq, Debug)]
+#[derive(Clone, Copy, PartialEq, Eq, Debug)]
 pub enum Rule {
     // the version is 1
-    Version,
+    Version = 1,
     // no byte is missing or left over
-    Bytes,
+    Bytes = 2,
     // counts and fields lie in their ranges
-    Range,
+    Range = 3,
     // a name is an identifier, and stands once
-    Name,
+    Name = 4,
     // the nodes form trees
-    Tree,
+    Tree = 5,
     // a name that is used is known
-    Unknown,
+    Unknown = 6,
     // a name that is declared is free
-    Taken,
+    Taken = 7,
     // types fit
-    Type,
+    Type = 8,
     // arguments and results are as many as asked
-    Count,
+    Count = 9,
     // a `return` stands last, and a function with results ends in one
-    Return,
+    Return = 10,
     // there is a `main` of the right kind
-    Main,
+    Main = 11,
 }
 
 impl Rule {
     pub fn number(self) -> u8
         ensures { result ≡ rule_number self }
     {
-        match self {
-            Rule::Version => 1,
-            Rule::Bytes => 2,
-            Rule::Range => 3,
-            Rule::Name => 4,
-            Rule::Tree => 5,
-            Rule::Unknown => 6,
-            Rule::Taken => 7,
-            Rule::Type => 8,
-            Rule::Count => 9,
-            Rule::Return => 10,
-            Rule::Main => 11,
-        }
+        self as u8
     }
 }

@@ -2,39 +2,31 @@
 ghost use Rattle.std.specs.Prelude.{◌≡◌};
 ghost use Rattle.xi.specs.Numbers.{stop_number};
 
-#[derive(Clone, Copy, PartialEq, Debug)]
+#[derive(Clone, Copy, PartialEq, Eq, Debug)]
 pub enum Stop {
     // the divisor of `/`, `%` or `ratio` is 0
-    ZeroDivisor,
+    ZeroDivisor = 18,
     // an index lies outside its array
-    Index,
+    Index = 19,
     // an unset value is read
-    Unset,
+    Unset = 20,
     // a given length is negative
-    NegativeLength,
+    NegativeLength = 21,
     // there are not enough cells for a new array
-    CellsTooFew,
+    CellsTooFew = 22,
     // as many calls are open as the depth allows
-    TooDeep,
+    TooDeep = 23,
     // the host has less room than is to be written
-    RoomTooSmall,
+    RoomTooSmall = 24,
     // what is to be written is no character
-    NoCharacter,
+    NoCharacter = 25,
 }
 
 impl Stop {
+    // as of a rule; a trait over the two would be longer than they are
     pub fn number(self) -> u8
         ensures { result ≡ stop_number self }
     {
-        match self {
-            Stop::ZeroDivisor => 18,
-            Stop::Index => 19,
-            Stop::Unset => 20,
-            Stop::NegativeLength => 21,
-            Stop::CellsTooFew => 22,
-            Stop::TooDeep => 23,
-            Stop::RoomTooSmall => 24,
-            Stop::NoCharacter => 25,
-        }
+        self as u8
     }
 }

@@ -8,12 +8,13 @@ use xi::node::Ty;
 use xi::program::Parameter;
 
 impl Scope {
+    #[tactic(auto, unfolding(crate::specs::Scopes::scope_of))]
     pub(crate) fn empty() -> Scope
         ensures { scope_of result ≡ [] }
     {
         let none = Parameter {
             name: 0,
-            ty: Ty { number: 0 },
+            ty: Ty::INT,
         };
         Scope {
             names: [none; 64],
@@ -22,12 +23,12 @@ impl Scope {
     }
 
     // The type of a name in scope.
+    #[tactic(auto, unfolding(crate::specs::Scopes::scope_of))]
     pub(crate) fn find(&self, name: u16) -> Option<Ty>
         ensures { type_in (scope_of self.now) name ≡ type_found result }
     {
-        let mut i = self.len;
-        while i > 0 {
-            i -= 1;
+        // by place: a search from the back of a slice's iterator was tried, and not proved
+        for i in (0..self.len).rev() {
             if self.names[i].name == name {
                 return Some(self.names[i].ty);
             }
@@ -35,6 +36,7 @@ impl Scope {
         None
     }
 
+    #[tactic(auto, unfolding(crate::specs::Scopes::scope_of))]
     pub(crate) fn has_room(&self) -> bool
         ensures { result ≡ nat_lt (length (scope_of self.now)) 64 }
     {
@@ -42,13 +44,14 @@ impl Scope {
     }
 
     // The scope with one name more.
-    pub(crate) fn with(mut self, name: u16, ty: Ty) -> Scope
+    #[tactic(auto, unfolding(crate::specs::Scopes::scope_of))]
+    pub(crate) fn with(mut self, local: Parameter) -> Scope
         requires { length (scope_of self) < 64 }
-        ensures { scope_of result ≡ binding name ty ∷ scope_of self }
+        ensures { scope_of result ≡ binding local.name local.ty ∷ scope_of self }
     {
-        let n = self.len;
-        self.names[n] = Parameter { name, ty };
-        self.len = n + 1;
+        let len = self.len;
+        self.names[len] = local;
+        self.len = len + 1;
         self
     }
 }

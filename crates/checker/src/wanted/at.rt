@@ -11,10 +11,15 @@ pub(crate) fn is_wanted(wanted: Wanted, count: usize, i: usize, ty: Ty) -> bool
     ensures { result ≡ begins ty.number (drop i (wanted_types wanted.entry count)) }
 {
     match wanted {
-        Wanted::Each { ty: each } => ty.number == each.number,
-        Wanted::Types { types } => i < types.len() && ty.number == types[i].number,
-        Wanted::Parameters { parameters } => i < parameters.len()
-            && ty.number == parameters[i].ty.number,
+        Wanted::Each { ty: each } => ty == each,
+        Wanted::Types { types } => match types.get(i) {
+            Some(wanted) => ty == *wanted,
+            None => false,
+        },
+        Wanted::Parameters { parameters } => match parameters.get(i) {
+            Some(parameter) => ty == parameter.ty,
+            None => false,
+        },
     }
 }
 
@@ -27,10 +32,4 @@ pub(crate) fn wanted_count(wanted: Wanted, count: usize) -> usize
         Wanted::Types { types } => types.len(),
         Wanted::Parameters { parameters } => parameters.len(),
     }
-}
-
-pub(crate) fn each<'s>(ty: Ty) -> Wanted<'s>
-    ensures { result ≡ Wanted.Each ty }
-{
-    Wanted::Each { ty }
 }

@@ -7,68 +7,43 @@ ghost use Rattle.sheet.specs.SheetsOf.{decoded_of};
 use crate::functions::records::functions;
 use crate::item::{Known, items};
 use crate::names::names;
-use crate::reader::{Reader, quad};
-use crate::refusal::Refusal;
+use crate::reader::Reader;
+use crate::refusal::{Refusal, hold};
 use crate::sheet::Sheet;
 use std::alloc::Global;
 use xi::rule::Rule;
 
 // The version and the stated length, in the first five bytes.
-fn head(bytes: &[u8]) -> Result<(), Refusal>
-    ensures said { Said result (λ _. tt) (head_at bytes.now) }
-    ensures long { OnOk result (5 ≤ length bytes.now) }
+fn head(r: &mut Reader, size: usize) -> Result<(), Refusal>
+    requires start { r.old.at ≡ 0 }
+    requires size { size ≡ length r.old.bytes.now }
+    ensures said { Said result (λ _. tt) (head_at r.old.bytes.now) }
+    ensures same { r.new.bytes.now ≡ r.old.bytes.now }
+    ensures moved { OnOk result (r.new.at ≡ 5) }
 {
-    if bytes.is_empty() {
-        return Err(Refusal::Broken {
-            rule: Rule::Bytes,
-            at: 0,
-        });
-    }
-    if bytes[0] != 1 {
-        return Err(Refusal::Broken {
-            rule: Rule::Version,
-            at: 0,
-        });
-    }
-    if bytes.len() < 5 || quad(bytes, 1) as usize != bytes.len() {
-        return Err(Refusal::Broken {
-            rule: Rule::Bytes,
-            at: 1,
-        });
-    }
-    Ok(())
+    let version = r.span(1)?;
+    hold(version.bytes[0] == 1, Rule::Version, version.at)?;
+    let length = r.span(4)?;
+    hold(length.quad(0) as usize == size, Rule::Bytes, length.at)
 }
 
 pub fn decode<'a>(heap: Global, bytes: &'a [u8]) -> Result<Sheet<'a>, Refusal>
     ensures { Said result decoded_of (decoded_at bytes.now) }
 {
-    head(bytes)?;
-    let mut r = Reader::behind_head(bytes);
+    let mut r = Reader::new(bytes);
+    head(&mut r, bytes.len())?;
     let names = names(heap, &mut r)?;
-    let none = Known {
-        names: names.len(),
-        constants: &[],
-        entries: 0,
-    };
+    let none = Known::of(&names, &[], &[]);
     let constants = items::<i64>(heap, &mut r, none, 1024)?;
     let entries = items::<u16>(heap, &mut r, none, 4096)?;
-    let known = Known {
-        names: names.len(),
-        constants: &constants,
-        entries: entries.len(),
-    };
+    let known = Known::of(&names, &constants, &entries);
     let nodes_at = r.place() + 2;
     let nodes = items(heap, &mut r, known, 2048)?;
     let globals_at = r.place() + 2;
     let globals = items(heap, &mut r, known, 32)?;
     let functions_at = r.place();
-    let functions = functions(heap, names.len(), &mut r)?;
-    if r.place() != bytes.len() {
-        return Err(Refusal::Broken {
-            rule: Rule::Bytes,
-            at: r.place(),
-        });
-    }
+    let functions = functions(heap, &mut r, known)?;
+    hold(r.place() == bytes.len(), Rule::Bytes, r.place())?;
     Ok(Sheet {
         names,
         constants,

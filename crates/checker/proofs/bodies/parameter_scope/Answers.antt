@@ -12,14 +12,14 @@ turn : (ps : List Parameter) (i : ℕ) (d : Parameter) (Γ Δ : Scope) → i < l
 turn ps i d Γ Δ h e = ap (named (drop (i + 1) ps)) e ∙ sym (at_drop_more (λ qs. named qs Γ) ps i d h)
 
 pub with-scope-requires : goal.with-scope-requires
-with-scope-requires c = omega (arith, c.loop-i.invariant.1)
+with-scope-requires c = omega (arith, c.loop-parameter.invariant.1)
 
-pub loop-i-preserved : goal.loop-i-preserved
-loop-i-preserved c =
-    let one : suc c.loop-i.i ≡ c.loop-i.i + 1 = omega arith in (
-      turn c.args.parameters.now _ _ _ _ c.loop-i-test.true c.with-scope.ensures ∙ c.loop-i.invariant.0,
-      ap length c.with-scope.ensures ∙ ap suc c.loop-i.invariant.1 ∙ one,
+pub loop-parameter-preserved : goal.loop-parameter-preserved
+loop-parameter-preserved c =
+    let one : suc c.loop-parameter.parameter-index ≡ c.loop-parameter.parameter-index + 1 = omega arith in (
+      turn c.args.parameters.now _ _ _ _ c.loop-parameter-test.true c.with-scope.ensures ∙ c.loop-parameter.invariant.0,
+      ap length c.with-scope.ensures ∙ ap suc c.loop-parameter.invariant.1 ∙ one,
     )
 
 pub returns : goal.returns
-returns c = sym (at_drop_all (λ qs. named qs (scope_of c.loop-i.scope)) c.args.parameters.now c.loop-i.i c.loop-i-test.false) ∙ c.loop-i.invariant.0
+returns c = sym (at_drop_all (λ qs. named qs (scope_of c.loop-parameter.scope)) c.args.parameters.now c.loop-parameter.parameter-index c.loop-parameter-test.false) ∙ c.loop-parameter.invariant.0

@@ -1,11 +1,13 @@
-use Rattle.std.proofs.Common.{◌≡◌, drop}
+use Rattle.std.proofs.Common.{◌≡◌, drop, length}
 use Rattle.xi.specs.Typing.{numbers_of}
 use Rattle.checker.specs.Walk.{targets_fit}
-use Rattle.checker.specs.Held.{held_by}
+use Rattle.checker.specs.Contents.{contents}
 use Rattle.checker.proofs.declarations.targets_fit.Given as goal
 
 -- what is left to compare decides
-abbrev pub invariant-loop-i : goal.invariant-loop-i
-invariant-loop-i l =
-    targets_fit (held_by l.sheet).program (drop l.i l.targets) (numbers_of (drop l.i l.types))
-    ≡ targets_fit (held_by l.sheet).program l.targets (numbers_of l.types)
+abbrev pub invariant-loop-target : goal.invariant-loop-target
+invariant-loop-target l =
+    (goal.iterator-loop-target).can_next l.target-iterator ×
+    (goal.iterator-loop-target).is_finite l.target-iterator ×
+    (targets_fit (contents l.trees.sheet).program (drop (length l.yielded) l.targets) (numbers_of (drop (length l.yielded) l.types))
+    ≡ targets_fit (contents l.trees.sheet).program l.targets (numbers_of l.types))

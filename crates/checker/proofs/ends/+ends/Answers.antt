@@ -1,17 +1,10 @@
-use Rattle.std.proofs.Common.{◌<◌, ◌≤◌, length, sym, ap, ◌∙◌, rules}
+use Rattle.std.proofs.Common.{sym, ap, ◌∙◌}
 use Rattle.checker.specs.Walk.{ends_last, ends_of}
-use Rattle.checker.specs.Held.{held_by}
-use Rattle.checker.proofs.Endings.{ends_none, ends_last-get}
+use Rattle.checker.specs.Contents.{contents}
+use Rattle.checker.proofs.Endings.{ends_last-get}
 use Rattle.checker.proofs.ends.+ends.Goals as goal
 
-pub returns-then-is_empty : goal.returns-then-is_empty
-returns-then-is_empty t c =
-    let go = ends_of (held_by c.args.sheet.now).program in
-    let none : length c.entries-parts.result.now ≤ 0 = search rules in
-    sym (c.in-Block.ensures.ends ∙ ap (ends_last go) (sym c.entries-parts.ensures) ∙ ends_none go _ none)
-
-pub returns-else-is_empty : goal.returns-else-is_empty
-returns-else-is_empty t c =
-    let go = ends_of (held_by c.args.sheet.now).program in
-    let some : 0 < length c.entries-parts.result.now = search rules in
-    c.ends-in-Block.ensures ∙ sym (c.in-Block.ensures.ends ∙ ap (ends_last go) (sym c.entries-parts.ensures) ∙ ends_last-get go _ some)
+pub returns-in-len1-up : goal.returns-in-len1-up
+returns-in-len1-up t c =
+    let go = ends_of (contents c.args.trees.now.sheet).program in
+    c.ends-in-len1-up.ensures ∙ sym (c.in-Block.ensures.ends ∙ ap (ends_last go) (sym c.entries.ensures) ∙ ends_last-get go _ c.in-len1-up.len_at_least)

@@ -1,7 +1,7 @@
-use Rattle.std.proofs.Common.{length, sym, refl, ◌∙◌, rules}
+use Rattle.std.proofs.Common.{length, sym, refl, ap, ◌∙◌, rules}
 use Rattle.sheet.proofs.Outcomes.{said_on}
-use Rattle.checker.specs.Held.{held_by}
-use Rattle.checker.specs.Scopes.{scope_of}
+use Rattle.checker.specs.Contents.{contents}
+use Rattle.checker.specs.Scopes.{scope_of, function_found}
 use Rattle.checker.specs.Walk.{type_of}
 use Rattle.checker.specs.Wants.{wanted_types}
 use Rattle.checker.proofs.Calls.{call-bad, call-good, library-bad, library-good, by-call-bad, by-call-good}
@@ -12,28 +12,28 @@ use Rattle.checker.proofs.expressions.+arguments_call_expression_values.Goals.{v
 pub call-returns-in_err-arguments-in-Call : goal.call-returns-in_err-arguments-in-Call
 call-returns-in_err-arguments-in-Call t c =
     record {
-      said = said_on _ _ _ _ _ _ c.from_residual.ensures.1 c.in_err-arguments-in-Call.ensures.said (call-bad _ _ _ _ _ c.in-Call.run' _ _ _ _ (c.in-Call.ensures.calls _ _) c.in-Some.ensures.named c.entries.ensures c.parameters.ensures.items c.results-results.ensures);
+      said = said_on _ _ _ _ _ _ c.from_residual-in_err-arguments-in-Call.ensures.1 c.in_err-arguments-in-Call.ensures.said (call-bad _ _ _ _ _ c.in-Call.run' _ _ _ _ (c.in-Call.ensures.calls _ _) (c.function_named-function.ensures.named ∙ ap function_found c.in_ok-function-in-Call.ensures.ok_part) c.entries.ensures c.parameters-parameters.ensures.items c.results-results.ensures);
       many = search rules;
     }
 
 pub call-returns-in_err-arguments-in-LibraryCall : goal.call-returns-in_err-arguments-in-LibraryCall
 call-returns-in_err-arguments-in-LibraryCall t c =
     record {
-      said = said_on _ _ _ _ _ _ c.from_residual-in_err-arguments-in-LibraryCall.ensures.1 c.in_err-arguments-in-LibraryCall.ensures.said (library-bad _ _ _ _ _ c.in-LibraryCall.run' _ _ _ (c.in-LibraryCall.ensures.calls _ _) c.entries-in-LibraryCall.ensures c.takes.ensures c.gives-results.ensures);
+      said = said_on _ _ _ _ _ _ c.from_residual-in_err-arguments-in-LibraryCall.ensures.1 c.in_err-arguments-in-LibraryCall.ensures.said (library-bad _ _ _ _ _ c.in-LibraryCall.run' _ _ _ (c.in-LibraryCall.ensures.calls _ _) c.entries-in-LibraryCall.ensures c.takes-types.ensures c.gives-results.ensures);
       many = search rules;
     }
 
 pub call-returns-in_ok-arguments-in-Call : goal.call-returns-in_ok-arguments-in-Call
 call-returns-in_ok-arguments-in-Call t c =
     record {
-      said = call-good _ _ _ _ _ c.in-Call.run' _ _ _ _ (c.in-Call.ensures.calls _ _) c.in-Some.ensures.named c.entries.ensures c.parameters.ensures.items c.results-results.ensures c.in_ok-arguments-in-Call.ensures.said;
+      said = call-good _ _ _ _ _ c.in-Call.run' _ _ _ _ (c.in-Call.ensures.calls _ _) (c.function_named-function.ensures.named ∙ ap function_found c.in_ok-function-in-Call.ensures.ok_part) c.entries.ensures c.parameters-parameters.ensures.items c.results-results.ensures c.in_ok-arguments-in-Call.ensures.said;
       many = c.in_ok-arguments-in-Call.ensures.many;
     }
 
 pub call-returns-in_ok-arguments-in-LibraryCall : goal.call-returns-in_ok-arguments-in-LibraryCall
 call-returns-in_ok-arguments-in-LibraryCall t c =
     record {
-      said = library-good _ _ _ _ _ c.in-LibraryCall.run' _ _ _ (c.in-LibraryCall.ensures.calls _ _) c.entries-in-LibraryCall.ensures c.takes.ensures c.gives-results.ensures c.in_ok-arguments-in-LibraryCall.ensures.said;
+      said = library-good _ _ _ _ _ c.in-LibraryCall.run' _ _ _ (c.in-LibraryCall.ensures.calls _ _) c.entries-in-LibraryCall.ensures c.takes-types.ensures c.gives-results.ensures c.in_ok-arguments-in-LibraryCall.ensures.said;
       many = c.in_ok-arguments-in-LibraryCall.ensures.many;
     }
 
@@ -47,12 +47,12 @@ expression-returns-in_ok-results-in-Call t c =
 
 pub values-returns-in_err-ty : goal.values-returns-in_err-ty
 values-returns-in_err-ty t c =
-    let go = type_of (held_by c.args.sheet.now) (scope_of c.args.scope.now) in
+    let go = type_of (contents c.args.trees.now.sheet) (scope_of c.args.scope.now) in
     said_on _ _ _ _ _ _ c.from_residual.ensures.1 c.in_err-ty.ensures (λ k q e. sym c.loop-i.invariant ∙ fit-bad go c.args.parts.now (wanted_types c.args.wanted (length c.args.parts.now)) _ _ c.loop-i-test.true k q e)
 
 pub values-loop-i-preserved : goal.values-loop-i-preserved
 values-loop-i-preserved t c =
-    let go = type_of (held_by c.args.sheet.now) (scope_of c.args.scope.now) in
+    let go = type_of (contents c.args.trees.now.sheet) (scope_of c.args.scope.now) in
     let ns = c.args.parts.now in
     let ws = wanted_types c.args.wanted (length ns) in
     elim c.if-not-is_wanted.branch [
@@ -62,5 +62,5 @@ values-loop-i-preserved t c =
 
 pub values-returns : goal.values-returns
 values-returns t c =
-    let go = type_of (held_by c.args.sheet.now) (scope_of c.args.scope.now) in
+    let go = type_of (contents c.args.trees.now.sheet) (scope_of c.args.scope.now) in
     sym c.loop-i.invariant ∙ fit-end go c.args.parts.now (wanted_types c.args.wanted (length c.args.parts.now)) _ _ c.loop-i-test.false

@@ -1,6 +1,6 @@
 use Rattle.std.proofs.Common.{◌≡◌, ◌+◌, ◌*◌, length}
 use Rattle.checker.specs.Walk.{fitting, type_of}
-use Rattle.checker.specs.Held.{held_by}
+use Rattle.checker.specs.Contents.{contents}
 use Rattle.checker.specs.Scopes.{scope_of}
 use Rattle.checker.specs.Wants.{wanted_types}
 use Rattle.checker.proofs.Fitting.{left}
@@ -21,5 +21,5 @@ decreases-expression l = 4 * l.n + 3
 -- what is left to type gives all
 abbrev pub invariant-values-loop-i : goal.invariant-values-loop-i
 invariant-values-loop-i l =
-    left (type_of (held_by l.sheet) (scope_of l.scope)) l.parts (wanted_types l.wanted (length l.parts)) l.i l.fit
-    ≡ fitting (type_of (held_by l.sheet) (scope_of l.scope)) l.parts (wanted_types l.wanted (length l.parts))
+    left (type_of (contents l.trees.sheet) (scope_of l.scope)) l.parts (wanted_types l.wanted (length l.parts)) l.i l.fit
+    ≡ fitting (type_of (contents l.trees.sheet) (scope_of l.scope)) l.parts (wanted_types l.wanted (length l.parts))

@@ -1,21 +1,31 @@
-use Rattle.std.proofs.Common.{◌<◌, ◌≤◌, length, sym, ◌∙◌, arith}
-use Rattle.checker.specs.Checked.{function_free}
-use Rattle.checker.specs.Held.{held_by}
-use Rattle.sheet.proofs.Outcomes.{said_on}
-use Rattle.sheet.proofs.Steps.{step-bad, step-good, no_more}
+use Rattle.std.proofs.Common.{◌≡◌, ℕ, List, map, Option, slice_index, sym, ap, ◌∙◌}
+use Rattle.xi.specs.declared.rule.Rule.TheVariants.{Taken}
+use Rattle.sheet.specs.declared.functions.FunctionRecord.{FunctionRecord}
+use Rattle.sheet.specs.Outcome.{bad}
+use Rattle.sheet.specs.Sheets.{Decoded}
+use Rattle.checker.specs.Checked.{function_name, functions_free}
+use Rattle.checker.specs.Contents.{contents}
+use Rattle.checker.specs.Repeats.{record_name, repeated}
+use Rattle.checker.specs.Trees.{no_function}
+use Rattle.checker.proofs.Searches.{fails_at, tests-repeated, repeated-within, repeated-map}
 use Rattle.checker.proofs.names.functions_free.Goals as goal
 
-pub returns-in_err-function_free : goal.returns-in_err-function_free
-returns-in_err-function_free c =
-    let more : c.loop-i.i < length (held_by c.args.sheet.now).program.functions = omega (arith, c.function_count-i-end.ensures) in
-    said_on _ _ _ _ _ _ c.from_residual.ensures.1 c.in_err-function_free.ensures (λ k q e. sym c.loop-i.invariant ∙ step-bad (λ i _. function_free (held_by c.args.sheet.now) i) _ _ tt more k q e)
+-- o is what is found among the records rs
+module _ (D : Decoded) (rs : List FunctionRecord) (functions : map (λ (r : FunctionRecord). r.function) rs ≡ D.program.functions) (o : Option ℕ) (found : o ≡ repeated record_name rs) where
+  same : repeated function_name D.program.functions ≡ o
+  same = ap (repeated function_name) (sym functions) ∙ repeated-map (λ (r : FunctionRecord). r.function) function_name rs ∙ sym found
 
-pub loop-i-preserved : goal.loop-i-preserved
-loop-i-preserved c =
-    let more : c.loop-i.i < length (held_by c.args.sheet.now).program.functions = omega (arith, c.function_count-i-end.ensures) in
-    step-good (λ i _. function_free (held_by c.args.sheet.now) i) _ _ tt more tt c.in_ok-function_free.ensures ∙ c.loop-i.invariant
+  free-are : functions_free D ≡ fails_at Taken (slice_index D.function_places) o
+  free-are = tests-repeated no_function Taken (slice_index D.function_places) D.program.functions function_name ∙ ap (fails_at Taken (slice_index D.function_places)) same
 
-pub returns : goal.returns
-returns c =
-    let none : length (held_by c.args.sheet.now).program.functions ≤ c.loop-i.i = omega (arith, c.function_count-i-end.ensures) in
-    sym c.loop-i.invariant ∙ no_more (λ i _. function_free (held_by c.args.sheet.now) i) _ _ tt none
+pub function_place-requires : goal.function_place-requires
+function_place-requires c = repeated-within function_name _ _ (same (contents c.args.sheet.now) _ c.functions.ensures.functions _ c.repeated.ensures ∙ c.in-Some.is)
+
+pub returns-in-None : goal.returns-in-None
+returns-in-None c =
+    free-are (contents c.args.sheet.now) _ c.functions.ensures.functions _ c.repeated.ensures ∙ ap (fails_at Taken (slice_index (contents c.args.sheet.now).function_places)) c.in-None.is
+
+pub returns-in-Some : goal.returns-in-Some
+returns-in-Some c =
+    free-are (contents c.args.sheet.now) _ c.functions.ensures.functions _ c.repeated.ensures ∙ ap (fails_at Taken (slice_index (contents c.args.sheet.now).function_places)) c.in-Some.is
+    ∙ ap (bad Taken) (sym c.function_place.ensures)

@@ -1,21 +1,23 @@
-use Rattle.std.proofs.Common.{◌<◌, ◌≤◌, length, sym, ap, ◌∙◌, arith}
-use Rattle.checker.specs.Checked.{global_free}
-use Rattle.checker.specs.Held.{held_by}
-use Rattle.sheet.proofs.Outcomes.{said_on}
-use Rattle.sheet.proofs.Steps.{step-bad, step-good, no_more}
+use Rattle.std.proofs.Common.{◌≡◌, ℕ, ◌+◌, ◌*◌, Option, sym, ap, ◌∙◌}
+use Rattle.xi.specs.declared.rule.Rule.TheVariants.{Taken}
+use Rattle.sheet.specs.Outcome.{bad}
+use Rattle.sheet.specs.Sheets.{Decoded}
+use Rattle.checker.specs.Checked.{no_global, global_name, globals_free}
+use Rattle.checker.specs.Contents.{contents}
+use Rattle.checker.specs.Repeats.{repeated}
+use Rattle.checker.proofs.Searches.{fails_at, tests-repeated, repeated-within}
 use Rattle.checker.proofs.names.globals_free.Goals as goal
 
-pub returns-in_err-global_free : goal.returns-in_err-global_free
-returns-in_err-global_free c =
-    let more : c.loop-i.i < length (held_by c.args.sheet.now).program.globals = omega (arith, ap length c.globals-count.ensures) in
-    said_on _ _ _ _ _ _ c.from_residual.ensures.1 c.in_err-global_free.ensures (λ k q e. sym c.loop-i.invariant ∙ step-bad (λ i _. global_free (held_by c.args.sheet.now) i) _ _ tt more k q e)
+free-are : (D : Decoded) (o : Option ℕ) → repeated global_name D.program.globals ≡ o → globals_free D ≡ fails_at Taken (λ i. D.globals_at + 12 * i) o
+free-are D o e = tests-repeated no_global Taken (λ i. D.globals_at + 12 * i) D.program.globals global_name ∙ ap (fails_at Taken (λ i. D.globals_at + 12 * i)) e
 
-pub loop-i-preserved : goal.loop-i-preserved
-loop-i-preserved c =
-    let more : c.loop-i.i < length (held_by c.args.sheet.now).program.globals = omega (arith, ap length c.globals-count.ensures) in
-    step-good (λ i _. global_free (held_by c.args.sheet.now) i) _ _ tt more tt c.in_ok-global_free.ensures ∙ c.loop-i.invariant
+pub global_offset-requires : goal.global_offset-requires
+global_offset-requires c = repeated-within global_name _ _ (ap (repeated global_name) (sym c.globals.ensures) ∙ sym c.repeated.ensures ∙ c.in-Some.is)
 
-pub returns : goal.returns
-returns c =
-    let none : length (held_by c.args.sheet.now).program.globals ≤ c.loop-i.i = omega (arith, ap length c.globals-count.ensures) in
-    sym c.loop-i.invariant ∙ no_more (λ i _. global_free (held_by c.args.sheet.now) i) _ _ tt none
+pub returns-in-None : goal.returns-in-None
+returns-in-None c = free-are (contents c.args.sheet.now) _ (ap (repeated global_name) (sym c.globals.ensures) ∙ sym c.repeated.ensures ∙ c.in-None.is)
+
+pub returns-in-Some : goal.returns-in-Some
+returns-in-Some c =
+    free-are (contents c.args.sheet.now) _ (ap (repeated global_name) (sym c.globals.ensures) ∙ sym c.repeated.ensures ∙ c.in-Some.is)
+    ∙ ap (bad Taken) (sym c.global_offset.ensures)

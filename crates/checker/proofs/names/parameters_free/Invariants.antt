@@ -1,9 +1,10 @@
 use Rattle.std.proofs.Common.{◌≡◌, ◌-◌, length}
 use Rattle.sheet.specs.Outcome.{runs}
 use Rattle.checker.specs.Checked.{parameters_free_of, parameters_free}
-use Rattle.checker.specs.Held.{held_by}
+use Rattle.checker.specs.Contents.{contents}
 use Rattle.checker.proofs.names.parameters_free.Given as goal
 
 -- what is left to test decides
-abbrev pub invariant-loop-i : goal.invariant-loop-i
-invariant-loop-i l = runs (λ i _. parameters_free_of (held_by l.sheet) i) (length (held_by l.sheet).program.functions - l.i) l.i tt ≡ parameters_free (held_by l.sheet)
+abbrev pub invariant-loop-record : goal.invariant-loop-record
+invariant-loop-record l =
+    runs (λ i _. parameters_free_of (contents l.sheet) i) (length (contents l.sheet).program.functions - l.record-index) l.record-index tt ≡ parameters_free (contents l.sheet)

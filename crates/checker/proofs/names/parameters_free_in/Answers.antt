@@ -1,20 +1,29 @@
-use Rattle.std.proofs.Common.{◌<◌, ◌≤◌, length, sym, ◌∙◌, arith}
-use Rattle.checker.specs.Checked.{parameter_free}
+use Rattle.std.proofs.Common.{◌≡◌, ℕ, Bool, true, false, not, ◌&&◌, ◌||◌, List, get_or, take, sym, refl, ap, ◌∙◌}
+use Rattle.xi.specs.declared.program.GlobalVariable.{GlobalVariable}
+use Rattle.xi.specs.declared.program.Parameter.{Parameter}
+use Rattle.xi.specs.declared.rule.Rule.TheVariants.{Taken}
+use Rattle.sheet.specs.Outcome.{held}
+use Rattle.checker.specs.Checked.{has_name, global_name, parameter_name, no_parameter, parameter_free}
 use Rattle.sheet.proofs.Outcomes.{said_on}
-use Rattle.sheet.proofs.Steps.{step-bad, step-good, no_more}
+use Rattle.sheet.proofs.Steps.{step-bad, step-good}
 use Rattle.checker.proofs.names.parameters_free_in.Goals as goal
 
-pub returns-in_err-parameter_free : goal.returns-in_err-parameter_free
-returns-in_err-parameter_free c =
-    let more : c.loop-j.j < length c.args.parameters.now = omega (arith) in
-    said_on _ _ _ _ _ _ c.from_residual.ensures.1 c.in_err-parameter_free.ensures (λ k q e. sym c.loop-j.invariant ∙ step-bad (λ j _. parameter_free c.args.globals.now c.args.parameters.now c.args.at j) _ _ tt more k q e)
+-- neither of two tests
+neither : (a b : Bool) → not (a || b) ≡ (not a && not b)
+neither true b = refl
+neither false b = refl
+
+-- t says whether the name of parameter j is taken
+free_where : (gs : List GlobalVariable) (ps : List Parameter) (p j : ℕ) (t : Bool) → t ≡ (has_name global_name gs (get_or ps j no_parameter).name || has_name parameter_name (take j ps) (get_or ps j no_parameter).name) → parameter_free gs ps p j ≡ held (not t) Taken p
+free_where gs ps p j t e = ap (λ b. held b Taken p) (sym (neither _ _)) ∙ ap (λ b. held (not b) Taken p) (sym e)
+
+pub returns-in_err-hold : goal.returns-in_err-hold
+returns-in_err-hold c =
+    let free = free_where c.args.globals.now c.args.parameters.now c.args.at c.loop-j.j _ c.is_taken-taken.ensures in
+    said_on _ _ _ _ _ _ c.from_residual.ensures.1 c.in_err-hold.ensures
+    (λ k q e. sym c.loop-j.invariant ∙ step-bad (λ j _. parameter_free c.args.globals.now c.args.parameters.now c.args.at j) _ _ tt c.loop-j-test.true k q (free ∙ e))
 
 pub loop-j-preserved : goal.loop-j-preserved
 loop-j-preserved c =
-    let more : c.loop-j.j < length c.args.parameters.now = omega (arith) in
-    step-good (λ j _. parameter_free c.args.globals.now c.args.parameters.now c.args.at j) _ _ tt more tt c.in_ok-parameter_free.ensures ∙ c.loop-j.invariant
-
-pub returns : goal.returns
-returns c =
-    let none : length c.args.parameters.now ≤ c.loop-j.j = omega (arith) in
-    sym c.loop-j.invariant ∙ no_more (λ j _. parameter_free c.args.globals.now c.args.parameters.now c.args.at j) _ _ tt none
+    let free = free_where c.args.globals.now c.args.parameters.now c.args.at c.loop-j.j _ c.is_taken-taken.ensures in
+    step-good (λ j _. parameter_free c.args.globals.now c.args.parameters.now c.args.at j) _ _ tt c.loop-j-test.true tt (free ∙ c.in_ok-hold.ensures) ∙ c.loop-j.invariant

@@ -1,7 +1,7 @@
 use Rattle.std.proofs.Common.{◌≡◌, ◌+◌, ◌*◌, drop}
 use Rattle.xi.specs.Typing.{numbers_of}
 use Rattle.checker.specs.Walk.{after_all, after_of}
-use Rattle.checker.specs.Held.{held_by}
+use Rattle.checker.specs.Contents.{contents}
 use Rattle.checker.specs.Scopes.{scope_of}
 use Rattle.checker.proofs.statements.+block_statement.Given as goal
 
@@ -14,5 +14,5 @@ decreases-statement l = 2 * l.n + 1
 -- what is left of the block gives what all of it gives
 abbrev pub invariant-block-loop-i : goal.invariant-block-loop-i
 invariant-block-loop-i l =
-    after_all (after_of (held_by l.sheet) (numbers_of l.owed)) (drop l.i l.parts) (scope_of l.scope)
-    ≡ after_all (after_of (held_by l.sheet) (numbers_of l.owed)) l.parts (scope_of l.initial.scope)
+    after_all (after_of (contents l.trees.sheet) (numbers_of l.owed)) (drop l.i l.parts) (scope_of l.scope)
+    ≡ after_all (after_of (contents l.trees.sheet) (numbers_of l.owed)) l.parts (scope_of l.initial.scope)

@@ -1,29 +1,32 @@
-use Rattle.std.proofs.Common.{◌<◌, ◌≤◌, not, length, get_or, sym, ap, ◌∙◌, arith}
+use Rattle.std.proofs.Common.{◌≡◌, ℕ, not, List, length, get_or, Option, sym, refl, ap, ◌∙◌, rules, tests}
+use Rattle.std.proofs.lemmas.Iterator.{YieldsList-from_slice}
+use Rattle.std.proofs.lemmas.Iterator.Adapters.{position_from-zero}
+use Rattle.std.proofs.lemmas.Iterator.Search.{position_from_yields_List}
+use Rattle.std.specs.List.{position_from}
 use Rattle.xi.specs.declared.rule.Rule.TheVariants.{Tree as TreeRule}
-use Rattle.sheet.specs.Outcome.{held, bad}
+use Rattle.sheet.specs.Outcome.{bad, held, runs}
+use Rattle.sheet.specs.Sheets.{Decoded}
+use Rattle.checker.specs.declared.mark.Mark.{Mark}
 use Rattle.checker.specs.declared.mark.Mark.TheVariants.{Free}
-use Rattle.checker.specs.Trees.{offset_of, is_free}
-use Rattle.checker.specs.Held.{held_by}
-use Rattle.sheet.proofs.Steps.{step-bad, step-good, no_more}
+use Rattle.checker.specs.Contents.{contents}
+use Rattle.checker.specs.Trees.{offset_of, is_free, all_used}
+use Rattle.checker.proofs.Searches.{fails_at, tests-position}
 use Rattle.checker.proofs.tree.all_used.Goals as goal
 
-pub returns-then-is_free : goal.returns-then-is_free
-returns-then-is_free c =
-    let D = held_by c.args.sheet.now in
-    let more : c.loop-n.n < length D.program.nodes = omega (arith, c.node_count-n-end.ensures) in
-    sym c.loop-n.invariant
-    ∙ step-bad (λ n _. held (not (is_free (get_or c.args.marks.now n Free))) TreeRule (offset_of D n)) _ _ tt more TreeRule _ (ap (λ b. held (not b) TreeRule (offset_of D c.loop-n.n)) (sym c.if-is_free.ensures))
-    ∙ ap (bad TreeRule) (sym c.offset.ensures)
+-- o is what is found among the marks
+used_where : (D : Decoded) (u : List Mark) (o : Option ℕ) → length u ≡ length D.program.nodes → position_from is_free 0 u ≡ o → all_used D u ≡ fails_at TreeRule (offset_of D) o
+used_where D u o long found =
+    ap (λ n. runs (λ i _. held (not (is_free (get_or u i Free))) TreeRule (offset_of D i)) n 0 tt) (sym long)
+    ∙ tests-position Free TreeRule (offset_of D) u (λ i. not (is_free (get_or u i Free))) is_free (λ i l. refl) ∙ ap (fails_at TreeRule (offset_of D)) found
 
-pub loop-n-preserved : goal.loop-n-preserved
-loop-n-preserved c =
-    let D = held_by c.args.sheet.now in
-    let more : c.loop-n.n < length D.program.nodes = omega (arith, c.node_count-n-end.ensures) in
-    step-good (λ n _. held (not (is_free (get_or c.args.marks.now n Free))) TreeRule (offset_of D n)) _ _ tt more tt (ap (λ b. held (not b) TreeRule (offset_of D c.loop-n.n)) (sym c.if-is_free.ensures))
-    ∙ c.loop-n.invariant
+pub returns-in-None : goal.returns-in-None
+returns-in-None c =
+    let r : c.position.result ≡ position_from is_free 0 c.args.marks.now =
+    position_from_yields_List is_free _ _ c.position.result c.position.ensures.ran (YieldsList-from_slice c.args.marks.now c.iter.ensures.rest) (λ x b q k. search (rules, tests)) ∙ position_from-zero is_free c.args.marks.now in
+    used_where (contents c.args.sheet.now) c.args.marks.now _ c.requires (sym r ∙ c.in-None.is)
 
-pub returns : goal.returns
-returns c =
-    let D = held_by c.args.sheet.now in
-    let none : length D.program.nodes ≤ c.loop-n.n = omega (arith, c.node_count-n-end.ensures) in
-    sym c.loop-n.invariant ∙ no_more (λ n _. held (not (is_free (get_or c.args.marks.now n Free))) TreeRule (offset_of D n)) _ _ tt none
+pub returns-in-Some : goal.returns-in-Some
+returns-in-Some c =
+    let r : c.position.result ≡ position_from is_free 0 c.args.marks.now =
+    position_from_yields_List is_free _ _ c.position.result c.position.ensures.ran (YieldsList-from_slice c.args.marks.now c.iter.ensures.rest) (λ x b q k. search (rules, tests)) ∙ position_from-zero is_free c.args.marks.now in
+    used_where (contents c.args.sheet.now) c.args.marks.now _ c.requires (sym r ∙ c.in-Some.is) ∙ ap (bad TreeRule) (sym c.offset.ensures)

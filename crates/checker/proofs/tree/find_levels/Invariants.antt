@@ -1,10 +1,7 @@
-use Rattle.std.proofs.Common.{◌≡◌, ◌≤◌, length}
+use Rattle.std.proofs.Common.{◌≡◌, length}
 use Rattle.checker.specs.Trees.{levels}
 use Rattle.checker.proofs.tree.find_levels.Given as goal
 
--- the levels above are found
+-- the levels from n on are found
 abbrev pub invariant-loop-n : goal.invariant-loop-n
-invariant-loop-n l = (l.n ≤ length l.marks) × (levels l.marks l.n l.found ≡ levels l.marks (length l.marks) l.initial.found)
-
-abbrev pub decreases-loop-n : goal.decreases-loop-n
-decreases-loop-n l = l.n
+invariant-loop-n l = levels l.marks l.n l.found ≡ levels l.marks (length l.marks) l.initial.found

@@ -1,7 +1,10 @@
-use Rattle.std.proofs.Common.{◌≡◌, ◌-◌, ◌/◌, [], length, vec_items}
-use Rattle.report.specs.Hexadecimal.{pairs_from}
+use Rattle.std.proofs.Common.{◌≡◌, [], vec_items, length}
+use Rattle.report.specs.Hexadecimal.{pairs_after}
 use Rattle.report.proofs.hexadecimal.bytes.Given as goal
 
 -- what is left to read gives all
-abbrev pub invariant-loop-i : goal.invariant-loop-i
-invariant-loop-i l = pairs_from l.text (length l.text / 2 - l.i) l.i (vec_items l.all) ≡ pairs_from l.text (length l.text / 2) 0 []
+abbrev pub invariant-loop-rest : goal.invariant-loop-rest
+invariant-loop-rest l = pairs_after (vec_items l.all) l.rest ≡ pairs_after [] l.fn.text
+
+abbrev pub decreases-loop-rest : goal.decreases-loop-rest
+decreases-loop-rest l = length l.rest

@@ -3,14 +3,6 @@ use Rattle.checker.specs.Scopes.{scope_of}
 use Rattle.checker.proofs.Scoped.{scope_length, scope_more}
 use Rattle.checker.proofs.scope.Scope.with.Goals as goal
 
-pub bounds-self-n : goal.bounds-self-n
-unfolding scope_of
-bounds-self-n c = omega (arith, scope_length c.args.self.names c.args.self.len)
-
-pub invariant_of-self : goal.invariant_of-self
-unfolding scope_of
-invariant_of-self c = record { fits = omega (arith, scope_length c.args.self.names c.args.self.len) }
-
 pub returns : goal.returns
 unfolding scope_of
 returns c =

@@ -1,7 +1,6 @@
-use Rattle.std.proofs.Common.{◌≡◌, ℕ, ◌<◌, ◌≤◌, eqb, ltb, List, [], ◌∷◌, map, length, get_or, drop, replicate, sym, refl, ap, ◌∙◌}
+use Rattle.std.proofs.Common.{◌≡◌, ℕ, ◌<◌, eqb, List, [], ◌∷◌, map, length, get_or, drop, replicate, sym, refl, ap, ◌∙◌}
 use lib.ListN.{length-map, length-replicate}
-use Rattle.std.proofs.lemmas.List.{at_drop_more, at_drop_all, get_or-map, get_or-replicate}
-use Rattle.std.proofs.lemmas.Bool.{le-ltb}
+use Rattle.std.proofs.lemmas.List.{at_drop_more, get_or-map, get_or-replicate}
 use Rattle.xi.specs.declared.node.Ty.{Ty}
 use Rattle.xi.specs.declared.program.Parameter.{Parameter}
 use Rattle.checker.specs.declared.wanted.Wanted.{Wanted}
@@ -19,11 +18,6 @@ mapped f xs d i t h =
     let within : i < length (map f xs) = simp length-map h in
     sym (at_drop_more (begins t) (map f xs) i 0 within ∙ ap (eqb t) (get_or-map f xs i d 0 h))
 
-past : {A : Type 0} (f : A → ℕ) (xs : List A) (i t : ℕ) → length xs ≤ i → ltb i (length xs) ≡ begins t (drop i (map f xs))
-past f xs i t h =
-    let none : length (map f xs) ≤ i = simp length-map h in
-    le-ltb _ _ h ∙ sym (at_drop_all (begins t) (map f xs) i none)
-
 abbrev type_of_parameter : Parameter → ℕ
 type_of_parameter p = p.ty.number
 
@@ -36,24 +30,21 @@ wants : {w v : Wanted} (n i t : ℕ) → w ≡ v → begins t (drop i (wanted_ty
 wants n i t e = ap (λ w. begins t (drop i (wanted_types w n))) (sym e)
 
 pub returns-in-Each : goal.returns-in-Each
-returns-in-Each c = each c.args.count c.args.i c.args.ty.number _ c.requires ∙ wants c.args.count c.args.i c.args.ty.number c.in-Each.is
+returns-in-Each c = c.eq.ensures ∙ each c.args.count c.args.i c.args.ty.number _ c.requires ∙ wants c.args.count c.args.i c.args.ty.number c.in-Each.is
 
-pub returns-then-i-types : goal.returns-then-i-types
-returns-then-i-types c =
-    mapped (λ (t : Ty). t.number) c.in-Types.types.now _ c.args.i c.args.ty.number c.if-i-types.true ∙ wants c.args.count c.args.i c.args.ty.number c.in-Types.is
+pub returns-in-Some : goal.returns-in-Some
+returns-in-Some c =
+    let at = c.in-Some.ensures.lookup in
+    c.eq-in-Some.ensures
+    ∙ ap (λ (t : Ty). eqb c.args.ty.number t.number) at.1
+    ∙ mapped (λ (t : Ty). t.number) c.in-Types.types.now _ c.args.i c.args.ty.number at.3.0
+    ∙ wants c.args.count c.args.i c.args.ty.number c.in-Types.is
 
-pub returns-else-i-types : goal.returns-else-i-types
-returns-else-i-types c =
-    past (λ (t : Ty). t.number) c.in-Types.types.now c.args.i c.args.ty.number c.if-i-types.false ∙ wants c.args.count c.args.i c.args.ty.number c.in-Types.is
-
-pub returns-then-i-parameters : goal.returns-then-i-parameters
-returns-then-i-parameters c =
-    mapped type_of_parameter c.in-Parameters.parameters.now _ c.args.i c.args.ty.number c.if-i-parameters.true
-    ∙ ap (λ ws. begins c.args.ty.number (drop c.args.i ws)) (sym (types_of-map c.in-Parameters.parameters.now))
-    ∙ wants c.args.count c.args.i c.args.ty.number c.in-Parameters.is
-
-pub returns-else-i-parameters : goal.returns-else-i-parameters
-returns-else-i-parameters c =
-    past type_of_parameter c.in-Parameters.parameters.now c.args.i c.args.ty.number c.if-i-parameters.false
+pub returns-in-Some-get : goal.returns-in-Some-get
+returns-in-Some-get c =
+    let at = c.in-Some-get.ensures.lookup in
+    c.eq-in-Some-get.ensures
+    ∙ ap (λ (p : Parameter). eqb c.args.ty.number p.ty.number) at.1
+    ∙ mapped type_of_parameter c.in-Parameters.parameters.now _ c.args.i c.args.ty.number at.3.0
     ∙ ap (λ ws. begins c.args.ty.number (drop c.args.i ws)) (sym (types_of-map c.in-Parameters.parameters.now))
     ∙ wants c.args.count c.args.i c.args.ty.number c.in-Parameters.is

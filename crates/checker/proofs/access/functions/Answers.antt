@@ -1,7 +1,0 @@
-use Rattle.std.proofs.Common.{rules}
-use Rattle.checker.specs.Held.{held_by}
-use Rattle.checker.proofs.access.functions.Goals as goal
-
-pub returns : goal.returns
-unfolding held_by
-returns c = search rules
