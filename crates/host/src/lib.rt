@@ -41,7 +41,7 @@ pub trait Host {
     fn free(&self) -> usize
         ensures { result ≡ room self.now };
 
-    // Writes a character, and says whether there was room and it is one. With no value and no reason to give, the answer is a `bool`.
+    // Writes a character, and says whether there was room and it is one. A `bool` is all that the interface gives: why it is no, `free` and the character itself say.
     fn put(&mut self, c: u32) -> bool
         ensures value { result ≡ takes (room self.old) c }
         ensures left { left self.new ≡ left self.old }
@@ -52,7 +52,7 @@ pub trait Host {
     fn row_within(&self, most: usize) -> Option<usize>
         ensures { result ≡ row_within (left self.now) most }
     {
-        // the interface is by index, and what is read ends the loop: `find` would want a closure with a contract
+        // for hosts that have no quicker way; the interface is by index, and `find` over it was tried: its closure would want a contract
         for i in 0..=most {
             let Some(c) = self.ahead(i) else {
                 return Some(i);

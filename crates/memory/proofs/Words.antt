@@ -1,14 +1,17 @@
 -- The words of a stack, newest first.
-use Rattle.std.proofs.Common.{◌≡◌, ℕ, suc, ◌+◌, ◌-◌, ◌<◌, ◌≤◌, List, [], ◌∷◌, ◌++◌, reverse, length, get_or, take, drop, sym, ap, ◌∙◌, arith}
+use Rattle.std.proofs.Common.{◌≡◌, ℕ, zero, suc, ◌+◌, ◌-◌, ◌<◌, ◌≤◌, List, [], ◌∷◌, ◌++◌, reverse, length, get_or, take, drop, refl, sym, ap, ◌∙◌, arith}
 use Rattle.std.proofs.lemmas.List.{reverse-append, reverse-reverse, length-reverse, length-take-le, length-drop, take_at}
 use Rattle.std.proofs.lemmas.Slice.{take-put_mid}
 use Rattle.std.proofs.Math.Seq.{take-add, take-suc}
 use borrow.Rule.Slice.PartMut.{put_mid}
 use Rattle.memory.specs.Stacks.{newest_first}
 
--- one word more is the newest
-pub newest_first_more : (ws : List ℕ) (n : ℕ) → n < length ws → newest_first ws (suc n) ≡ get_or ws n 0 ∷ newest_first ws n
-newest_first_more ws n h = ap reverse (take-suc ws n 0 h) ∙ reverse-append (take n ws) (get_or ws n 0 ∷ [])
+-- the first n words, the last of them first, are those words turned
+pub turned_newest : (ws : List ℕ) (n : ℕ) → n ≤ length ws → reverse (take n ws) ≡ newest_first ws n
+turned_newest ws zero h = refl
+turned_newest ws (suc n) h =
+    ap reverse (take-suc ws n 0 (omega arith)) ∙ reverse-append (take n ws) (get_or ws n 0 ∷ [])
+    ∙ ap (λ (l : List ℕ). get_or ws n 0 ∷ l) (turned_newest ws n (omega arith))
 
 -- the k newest, oldest first, as they lie in memory
 pub newest_in_order : {X : Type 0} (ws : List X) (n k : ℕ) → k ≤ n → n ≤ length ws → take (n - (n - k)) (drop (n - k) ws) ≡ reverse (take k (reverse (take n ws)))

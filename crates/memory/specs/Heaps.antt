@@ -19,10 +19,6 @@ pub record Clean (h : Heap) : Type 0 where
   pub fits : cell_count h < 2 ^ 63
   pub rest : drop h.used h.cells.now ≡ replicate (cell_count h - h.used) unset_cell
 
--- every heap is clean
-pub clean : (h : Heap) → Clean h
-clean h = record { within = h.within; fits = h.fits; rest = h.rest }
-
 -- the cells in use are those of a store
 abbrev pub HoldsStore : Heap → Store → Type 0
 HoldsStore h s = cells_in h ≡ map cell_of s.cells

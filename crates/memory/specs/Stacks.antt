@@ -1,14 +1,15 @@
 -- What a stack holds.
-use Rattle.std.specs.Prelude.{ℕ, suc, ◌-◌, ◌^◌, ◌<◌, ◌≤◌, List, reverse, length, take}
+use Rattle.std.specs.Prelude.{ℕ, zero, suc, ◌-◌, ◌^◌, ◌<◌, ◌≤◌, List, [], ◌∷◌, reverse, length, take, slice_index}
 use Rattle.memory.specs.declared.stack.Stack.{Stack}
 
 -- the first n words, the last of them first
 abbrev pub newest_first : List ℕ → ℕ → List ℕ
-newest_first ws n = reverse (take n ws)
+newest_first ws zero = []
+newest_first ws (suc n) = slice_index ws n ∷ newest_first ws n
 
 -- the words on a stack, newest first
 abbrev pub items : Stack → List ℕ
-items s = newest_first s.words.now s.len
+items s = reverse (take s.len s.words.now)
 
 -- how many words are lent
 abbrev pub word_count : Stack → ℕ
@@ -18,10 +19,6 @@ word_count s = length s.words.now
 pub record Sized (s : Stack) : Type 0 where
   pub within : s.len ≤ word_count s
   pub fits : word_count s < 2 ^ 64
-
--- every stack is of such a size
-pub sized : (s : Stack) → Sized s
-sized s = record { within = s.within; fits = s.fits }
 
 -- where item i from the bottom stands
 abbrev pub from_bottom : List ℕ → ℕ → ℕ

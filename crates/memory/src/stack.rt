@@ -13,7 +13,7 @@ pub struct Stack<'w> {
 
 impl<'w> Stack<'w> {
     ghost use Rattle.std.specs.Prelude.{◌≡◌, ◌+◌, [], ◌∷◌, ◌++◌, reverse, take, drop, slice_index, slice_set};
-    ghost use Rattle.memory.specs.Stacks.{items, word_count, from_bottom};
+    ghost use Rattle.memory.specs.Stacks.{items, newest_first, word_count, Sized, from_bottom};
 
     pub fn new(words: &'w mut [u64]) -> Stack<'w>
         ensures items { items result ≡ [] }
@@ -21,6 +21,13 @@ impl<'w> Stack<'w> {
     {
         Stack { words, len: 0 }
     }
+
+    // What is known of every stack: no more words are in use than are lent, and its items are these, the newest first.
+    #[tactic(auto, using(crate::proofs::Words::turned_newest))]
+    pub fn sized(&self)
+        ensures sized { Sized self.now }
+        ensures items { items self.now ≡ newest_first self.now.words.now self.now.len }
+    {}
 
     pub fn len(&self) -> usize
         ensures { result ≡ length (items self.now) }

@@ -8,7 +8,8 @@ ghost use Rattle.xi.specs.Codes.{unary_of, operator_of, library_of, type_of, Sta
 pub struct UnknownNumber(pub u8);
 
 // The type of a value, by its number: 0 `int`, 1 `bool`, t + 2 an array of t.
-// A number and no enum of types: arrays nest, so an enum would need a box for what it is an array of, or a second number for the depth.
+// A number and no enum of types: arrays nest, so an enum would need a box for what it is an array of; and a base beside a depth would make
+// every definition that says t + 2 count it from the two.
 #[derive(Clone, Copy, PartialEq, Eq, Debug)]
 pub struct Ty {
     pub number: u8,

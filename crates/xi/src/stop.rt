@@ -23,7 +23,7 @@ pub enum Stop {
 }
 
 impl Stop {
-    // as of a rule; a trait over the two would be longer than they are
+    // as of a rule; a trait over the two, or `From` for `u8`, would be longer than they are, and say less where it is called
     pub fn number(self) -> u8
         ensures { result ≡ stop_number self }
     {

@@ -59,6 +59,7 @@ impl<'c> Heap<'c> {
         let first = self.used;
         self.push_unset(count);
         if !inner.is_empty() {
+            // by place, since more cells are taken behind while one is written
             for place in first + 1..self.used {
                 let part = self.used;
                 self.nested(inner);

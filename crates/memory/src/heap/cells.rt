@@ -1,7 +1,7 @@
 // One cell, or as many unset ones as are wanted.
 ghost use Rattle.std.specs.Prelude.{◌≡◌, ◌+◌, ◌-◌, ◌<◌, ◌≤◌, ◌≤ℤ◌, [], ◌∷◌, ◌++◌, length, get_or, replicate, pos, slice_index_or, slice_set};
 ghost use Rattle.memory.specs.Encoding.{unset_cell, set_cell};
-ghost use Rattle.memory.specs.Heaps.{cells_in, cell_count};
+ghost use Rattle.memory.specs.Heaps.{cells_in, cell_count, Clean};
 
 use crate::cell::Cell;
 use crate::heap::Heap;
@@ -18,6 +18,11 @@ impl<'c> Heap<'c> {
         cells[0] = Cell::set(0);
         Heap { cells, used: 1 }
     }
+
+    // What is known of every heap: the cells that are not in use are unset, and a cell's number is in the range of an `int`.
+    pub fn clean(&self)
+        ensures { Clean self.now }
+    {}
 
     pub fn used(&self) -> usize
         ensures { result ≡ length (cells_in self.now) }
