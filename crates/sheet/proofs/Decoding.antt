@@ -1,14 +1,20 @@
--- What is still to read of a sheet, part by part.
+-- The parts of a sheet, and what is still to read of it, part by part.
 use Rattle.std.specs.Prelude.{ℕ, ◌+◌, List, length, ℤ, ◌==◌}
 use Rattle.xi.specs.declared.node.Node.{Node}
 use Rattle.xi.specs.declared.program.GlobalVariable.{GlobalVariable}
 use Rattle.xi.specs.declared.rule.Rule.TheVariants.{Bytes}
 use Rattle.sheet.specs.Outcome.{Outcome, good, then, held}
-use Rattle.sheet.specs.Fields.{items_at}
+use Rattle.sheet.specs.Fields.{pair, signed_at, items_at}
 use Rattle.sheet.specs.Nodes.{node_reads}
 use Rattle.sheet.specs.Globals.{global_reads}
 use Rattle.sheet.specs.Functions.{FunctionList, functions_at}
 use Rattle.sheet.specs.Sheets.{Decoded, decoded_with}
+
+abbrev pub constants_at : List ℕ → ℕ → Outcome (List ℤ × ℕ)
+constants_at bs p = items_at 8 (λ _ w. good (signed_at w 0)) 1024 bs p
+
+abbrev pub entries_at : List ℕ → ℕ → Outcome (List ℕ × ℕ)
+entries_at bs p = items_at 2 (λ _ w. good (pair w 0)) 4096 bs p
 
 -- bs are the bytes, and b, c and d the reader's as it begins each part; ws, cs and es were read, and n, ks and e are what is known of them
 module _ (bs b c d : List ℕ) (ws : List (List ℕ)) (cs : List ℤ) (es : List ℕ) (n : ℕ) (ks : List ℤ) (e : ℕ) where

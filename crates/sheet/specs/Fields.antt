@@ -48,7 +48,7 @@ count_at bs p m = then (span_at bs p 2) (λ w. then (held (nat_le (pair w 0) m) 
 abbrev pub part_at : {S : Type 0} → (List ℕ → S → Outcome S) → (ℕ → S) → ℕ → List ℕ → ℕ → Outcome S
 part_at item start m bs p = then (count_at bs p m) (λ n. runs (λ _ s. item bs s) n 0 (start (p + 2)))
 
--- one item more, of n bytes, which `reads` takes for a value or refuses: s has the items so far and where they end
+-- reads an item of n bytes, which `reads` takes for a value or refuses, and adds it to those before it: s has these and where they end
 abbrev pub item_of : {A : Type 0} → ℕ → (ℕ → List ℕ → Outcome A) → List ℕ → List A × ℕ → Outcome (List A × ℕ)
 item_of n reads bs s = then (span_at bs s.1 n) (λ w. then (reads s.1 w) (λ x. good (s.0 ++ x ∷ [], s.1 + n)))
 

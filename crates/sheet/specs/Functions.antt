@@ -55,7 +55,7 @@ function_of n p m k w s =
     } ∷ [])
     (s.places ++ p ∷ []) ps ts))))
 
--- one function more at the second of s; a record is as long as its own counts say
+-- reads a record at the second of s, and adds its function to those before it, the first of s; a record is as long as its own counts say
 abbrev pub function_item : ℕ → List ℕ → FunctionList × ℕ → Outcome (FunctionList × ℕ)
 function_item n bs s =
     then (byte_at bs s.1 2) (λ m.

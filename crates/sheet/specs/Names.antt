@@ -26,7 +26,7 @@ reserved = codes "use" ∷ codes "if" ∷ codes "while" ∷ codes "else" ∷ cod
 abbrev pub nameable : List ℕ → List (List ℕ) → Bool
 nameable w ws = identifier_from 0 w && (not (among w reserved) && not (among w ws))
 
--- one name more at the second of s, after those of the first, and where it ends
+-- reads a name at the second of s, and adds it to those before it, the first of s
 abbrev pub name_item : List ℕ → List (List ℕ) × ℕ → Outcome (List (List ℕ) × ℕ)
 name_item bs s =
     then (text_at bs s.1) (λ w.

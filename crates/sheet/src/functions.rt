@@ -2,7 +2,7 @@
 use xi::node::Ty;
 use xi::program::{Function, Parameter};
 
-pub mod records;
+mod records;
 
 // A function, and the offset of its record.
 #[derive(Clone, Copy)]

@@ -1,9 +1,10 @@
-// The parts of a sheet whose items have a fixed size.
-ghost use Rattle.std.specs.Prelude.{◌≡◌, ℕ, ◌+◌, ◌≤◌, List, length, map, nat_lt};
+// Items of a fixed size, and the parts of a sheet that have such items.
+ghost use Rattle.std.specs.Prelude.{◌≡◌, ℕ, ◌+◌, ◌≤◌, List, [], length, map, nat_lt};
 ghost use Rattle.sheet.specs.declared.item.Known.{Known};
 ghost use Rattle.sheet.specs.Outcome.{Outcome, Said, good};
-ghost use Rattle.sheet.specs.Fields.{pair, signed_at, name_in, item_of, items_at};
+ghost use Rattle.sheet.specs.Fields.{pair, signed_at, name_in, item_of};
 
+use crate::part::Part;
 use crate::reader::Reader;
 use crate::refusal::Refusal;
 use crate::span::Span;
@@ -48,6 +49,7 @@ impl<'s> Known<'s> {
     }
 }
 
+// What is known is one value for a whole part, and a span one for each item, so `read` takes the two.
 pub(crate) trait Item: Sized {
     ghost SIZE: { ℕ };
 
@@ -85,30 +87,22 @@ impl Item for u16 {
     }
 }
 
-// One item more.
-fn add_item<T: Item + Drop>(r: &mut Reader, known: Known, all: &mut Vec<T>) -> Result<(), Refusal>
-    ensures said { Said result (λ _. (all.new.items, r.new.at)) (item_of T.Item.SIZE (T.Item.reads known.entry) r.old.bytes.now (all.old.items, r.old.at)) }
-    ensures same { r.new.bytes.now ≡ r.old.bytes.now }
-{
-    let span = r.span(T::SIZE)?;
-    all.push(T::read(known, span)?)?;
-    Ok(())
-}
+impl<'a, T: Item + Drop> Part<'a> for Vec<T> {
+    ghost Value = { List T };
 
-// A part of at most `most` items.
-pub(crate) fn items<T: Item + Drop>(
-    heap: Global,
-    r: &mut Reader,
-    known: Known,
-    most: u16,
-) -> Result<Vec<T>, Refusal>
-    ensures said { Said result (λ v. (v.items, r.new.at)) (items_at T.Item.SIZE (T.Item.reads known.entry) most r.old.bytes.now r.old.at) }
-    ensures same { r.new.bytes.now ≡ r.old.bytes.now }
-{
-    let count = r.count(most)?;
-    let mut all = Vec::new(heap);
-    for _ in 0..count {
-        add_item(r, known, &mut all)?;
+    ghost value = { λ v. v.items };
+
+    ghost none = { [] };
+
+    ghost item = { λ k. item_of T.Item.SIZE (T.Item.reads k) };
+
+    fn empty(heap: Global) -> Vec<T> {
+        Vec::new(heap)
     }
-    Ok(all)
+
+    fn add(&mut self, r: &mut Reader<'a>, known: Known) -> Result<(), Refusal> {
+        let span = r.span(T::SIZE)?;
+        self.push(T::read(known, span)?)?;
+        Ok(())
+    }
 }

@@ -2,11 +2,12 @@
 #![tactic(auto)]
 
 pub mod functions;
-pub mod globals;
-pub mod item;
-pub mod names;
-pub mod nodes;
-pub mod reader;
+mod globals;
+mod item;
+mod names;
+mod nodes;
+mod part;
+mod reader;
 pub mod refusal;
 pub mod sheet;
-pub mod span;
+mod span;

@@ -1,8 +1,10 @@
 // The names of a sheet.
-ghost use Rattle.std.specs.Prelude.{◌≡◌, ℕ, ◌+◌, ◌<◌, ◌≤◌, [], map, length};
+ghost use Rattle.std.specs.Prelude.{◌≡◌, ℕ, ◌+◌, ◌<◌, ◌≤◌, List, [], map, length};
 ghost use Rattle.sheet.specs.Outcome.{Said};
-ghost use Rattle.sheet.specs.Names.{stands, identifier_from, among, nameable, name_item, names_at};
+ghost use Rattle.sheet.specs.Names.{stands, identifier_from, among, nameable, name_item};
 
+use crate::item::Known;
+use crate::part::Part;
 use crate::reader::Reader;
 use crate::refusal::{Refusal, hold};
 use std::alloc::Global;
@@ -22,6 +24,7 @@ fn may_stand(i: usize, b: u8) -> bool
     }
 }
 
+// By index, since what may stand at the first place is not what may stand at the others.
 fn is_identifier(w: &[u8]) -> bool
     ensures { result ≡ identifier_from 0 w.now }
 {
@@ -45,27 +48,25 @@ fn is_nameable(w: &[u8], names: &[&[u8]]) -> bool
     is_identifier(w) && !is_among(w, &RESERVED) && !is_among(w, names)
 }
 
-// One name more.
-fn name<'a>(r: &mut Reader<'a>, names: &mut Vec<&'a [u8]>) -> Result<(), Refusal>
-    ensures said { Said result (λ _. (map (λ v. v.now) names.new.items, r.new.at)) (name_item r.old.bytes.now (map (λ v. v.now) names.old.items, r.old.at)) }
-    ensures same { r.new.bytes.now ≡ r.old.bytes.now }
-{
-    let text = r.text()?;
-    let w = text.bytes;
-    text.in_range((1..=32).contains(&w.len()))?;
-    hold(is_nameable(w, names), Rule::Name, text.at)?;
-    names.push(w)?;
-    Ok(())
-}
+impl<'a> Part<'a> for Vec<&'a [u8]> {
+    ghost Value = { List (List ℕ) };
 
-pub(crate) fn names<'a>(heap: Global, r: &mut Reader<'a>) -> Result<Vec<&'a [u8]>, Refusal>
-    ensures said { Said result (λ ws. (map (λ v. v.now) ws.items, r.new.at)) (names_at r.old.bytes.now r.old.at) }
-    ensures same { r.new.bytes.now ≡ r.old.bytes.now }
-{
-    let count = r.count(256)?;
-    let mut all = Vec::new(heap);
-    for _ in 0..count {
-        name(r, &mut all)?;
+    ghost value = { λ v. map (λ w. w.now) v.items };
+
+    ghost none = { [] };
+
+    ghost item = { λ _. name_item };
+
+    fn empty(heap: Global) -> Vec<&'a [u8]> {
+        Vec::new(heap)
     }
-    Ok(all)
+
+    fn add(&mut self, r: &mut Reader<'a>, _known: Known) -> Result<(), Refusal> {
+        let text = r.text()?;
+        let w = text.bytes;
+        text.in_range((1..=32).contains(&w.len()))?;
+        hold(is_nameable(w, self), Rule::Name, text.at)?;
+        self.push(w)?;
+        Ok(())
+    }
 }

@@ -18,10 +18,13 @@ pub(crate) struct RawNode {
     pub c: u16,
 }
 
+// the last code point of Unicode
+const LAST_CHARACTER: i64 = 1_114_111;
+
 fn are_characters(text: &[i64]) -> bool
     ensures { result ≡ are_characters text.now }
 {
-    text.iter().all(|c| (0..=1_114_111).contains(c))
+    text.iter().all(|c| (0..=LAST_CHARACTER).contains(c))
 }
 
 // The run of constants is a text of at most 255 characters.
@@ -56,22 +59,20 @@ impl RawNode {
         }
     }
 
-    // Kinds 1 to 4.
+    // Kinds 1 to 4. As in the functions below, a kind is one row of the fields.
     fn leaf(self, known: Known) -> Option<Node>
         ensures { result ≡ leaf_of known.entry.names known.entry.constants.now self }
     {
         let RawNode { kind, s, a, b, c } = self;
-        match kind {
-            1 if s == 0 && b == 0 && c == 0 && (a as usize) < known.constants.len() => Some(
-                Node::Number { constant: a },
-            ),
-            2 if s == 0 && b == 0 && c == 0 && a <= 1 => Some(Node::Truth { value: a == 1 }),
-            3 if s == 0 && a == 0 && is_text(known.constants, self.run()) => Some(Node::Text {
+        match (kind, s, a, b, c) {
+            (1, 0, a, 0, 0) if (a as usize) < known.constants.len() => Some(Node::Number {
+                constant: a,
+            }),
+            (2, 0, a @ 0..=1, 0, 0) => Some(Node::Truth { value: a == 1 }),
+            (3, 0, 0, _, _) if is_text(known.constants, self.run()) => Some(Node::Text {
                 characters: self.run(),
             }),
-            4 if s == 0 && b == 0 && c == 0 && known.has_name(a) => Some(Node::Variable {
-                name: a,
-            }),
+            (4, 0, a, 0, 0) if known.has_name(a) => Some(Node::Variable { name: a }),
             _ => None,
         }
     }
@@ -88,14 +89,14 @@ impl RawNode {
         ensures { result ≡ operation_of self }
     {
         let RawNode { kind, s, a, b, c } = self;
-        match kind {
-            5 if s == 0 && c == 0 => Some(Node::Element { array: a, index: b }),
-            6 if s == 0 && b == 0 && c == 0 => Some(Node::Length { array: a }),
-            7 if b == 0 && c == 0 => Some(Node::Unary {
+        match (kind, s, a, b, c) {
+            (5, 0, a, b, 0) => Some(Node::Element { array: a, index: b }),
+            (6, 0, a, 0, 0) => Some(Node::Length { array: a }),
+            (7, s, a, 0, 0) => Some(Node::Unary {
                 operator: UnaryOperator::try_from(s).ok()?,
                 operand: a,
             }),
-            8 if c == 0 => Some(Node::Binary {
+            (8, s, a, b, 0) => Some(Node::Binary {
                 operator: Operator::try_from(s).ok()?,
                 left: a,
                 right: b,
@@ -108,21 +109,21 @@ impl RawNode {
     fn collection(self, known: Known) -> Option<Node>
         ensures { result ≡ collection_of known.entry.names known.entry.entries self }
     {
-        let RawNode { kind, s, a, .. } = self;
-        match kind {
-            9 if s <= 7 && a == 0 && self.run_within(16, known.entries) => Some(
+        let RawNode { kind, s, a, b, c } = self;
+        match (kind, s, a, b, c) {
+            (9, s @ 0..=7, 0, _, _) if self.run_within(16, known.entries) => Some(
                 Node::Constructor {
                     element: Ty::try_from(s).ok()?,
                     elements: self.run(),
                 },
             ),
-            10 if s == 0 && known.has_name(a) && self.run_within(8, known.entries) => Some(
+            (10, 0, a, _, _) if known.has_name(a) && self.run_within(8, known.entries) => Some(
                 Node::Call {
                     name: a,
                     arguments: self.run(),
                 },
             ),
-            11 if a == 0 && self.run_within(8, known.entries) => Some(Node::LibraryCall {
+            (11, s, 0, _, _) if self.run_within(8, known.entries) => Some(Node::LibraryCall {
                 function: LibraryFunction::try_from(s).ok()?,
                 arguments: self.run(),
             }),
@@ -135,21 +136,21 @@ impl RawNode {
         ensures { result ≡ declaration_of known.entry.names known.entry.entries self }
     {
         let RawNode { kind, s, a, b, c } = self;
-        let named = known.has_name(a);
-        match kind {
-            20 if named && self.run_within(u16::from(s / 2), known.entries) => Some(
+        match (kind, s, a, b, c) {
+            (20, s, a, _, _)
+                if known.has_name(a) && self.run_within(u16::from(s / 2), known.entries) => Some(
                 Node::Declare {
                     name: a,
                     ty: Ty::try_from(s).ok()?,
                     lengths: self.run(),
                 },
             ),
-            21 if named && c == 0 => Some(Node::DeclareValue {
+            (21, s, a, b, 0) if known.has_name(a) => Some(Node::DeclareValue {
                 name: a,
                 ty: Ty::try_from(s).ok()?,
                 value: b,
             }),
-            22 if s == 0 && c > 0 && self.run_within(8, known.entries) => Some(Node::DeclareCall {
+            (22, 0, a, _, 1..) if self.run_within(8, known.entries) => Some(Node::DeclareCall {
                 call: a,
                 targets: self.run(),
             }),
@@ -162,27 +163,24 @@ impl RawNode {
         ensures { result ≡ statement_of known.entry.names known.entry.entries self }
     {
         let RawNode { kind, s, a, b, c } = self;
-        if s != 0 {
-            return None;
-        }
-        match kind {
-            23 if known.has_name(a) && c == 0 => Some(Node::Assign { name: a, value: b }),
-            24 => Some(Node::AssignElement {
+        match (kind, s, a, b, c) {
+            (23, 0, a, b, 0) if known.has_name(a) => Some(Node::Assign { name: a, value: b }),
+            (24, 0, a, b, c) => Some(Node::AssignElement {
                 array: a,
                 index: b,
                 value: c,
             }),
-            25 if c == 0 => Some(Node::If { guard: a, then: b }),
-            26 => Some(Node::IfElse {
+            (25, 0, a, b, 0) => Some(Node::If { guard: a, then: b }),
+            (26, 0, a, b, c) => Some(Node::IfElse {
                 guard: a,
                 then: b,
                 otherwise: c,
             }),
-            27 if c == 0 => Some(Node::While { guard: a, body: b }),
-            28 if a == 0 && self.run_within(8, known.entries) => Some(Node::Return {
+            (27, 0, a, b, 0) => Some(Node::While { guard: a, body: b }),
+            (28, 0, 0, _, _) if self.run_within(8, known.entries) => Some(Node::Return {
                 values: self.run(),
             }),
-            29 if b == 0 && c == 0 => Some(Node::CallStatement { call: a }),
+            (29, 0, a, 0, 0) => Some(Node::CallStatement { call: a }),
             _ => None,
         }
     }
@@ -192,20 +190,20 @@ impl RawNode {
         ensures { result ≡ target_or_block_of known.entry.names known.entry.entries self }
     {
         let RawNode { kind, s, a, b, c } = self;
-        match kind {
-            30 if known.has_name(a) && b == 0 && c == 0 => Some(Node::Target {
+        match (kind, s, a, b, c) {
+            (30, s, a, 0, 0) if known.has_name(a) => Some(Node::Target {
                 name: a,
                 ty: Ty::try_from(s).ok()?,
             }),
-            31 if s == 0 && a == 0 && b == 0 && c == 0 => Some(Node::Discard),
-            32 if s == 0 && a == 0 && self.run_within(255, known.entries) => Some(Node::Block {
+            (31, 0, 0, 0, 0) => Some(Node::Discard),
+            (32, 0, 0, _, _) if self.run_within(255, known.entries) => Some(Node::Block {
                 statements: self.run(),
             }),
             _ => None,
         }
     }
 
-    // The node that the fields stand for, if any.
+    // The node that the fields stand for, if any. In two steps, first by ranges of kinds, so that each function is short.
     fn node(self, known: Known) -> Option<Node>
         ensures { result ≡ node_of known.entry.names known.entry.constants.now known.entry.entries self }
     {

@@ -9,7 +9,7 @@ use xi::rule::Rule;
 
 // All bytes and a place, and not the bytes left alone: what a sheet stands for is said of all its bytes.
 #[derive(Drop)]
-pub struct Reader<'a> {
+pub(crate) struct Reader<'a> {
     bytes: &'a [u8],
     at: usize,
     ghost within: { at ≤ length bytes.now },

@@ -1,12 +1,13 @@
 // Reads the records of functions.
-ghost use Rattle.std.specs.Prelude.{◌≡◌, ℕ, ◌+◌, ◌*◌, ◌/◌, ◌^◌, ◌<◌, ◌≤◌, length, vec_len, OnOk, IfOk};
+ghost use Rattle.std.specs.Prelude.{◌≡◌, ℕ, ◌+◌, ◌*◌, ◌/◌, ◌^◌, ◌<◌, ◌≤◌, [], length, vec_len, OnOk, IfOk};
 ghost use Rattle.sheet.specs.Outcome.{Said};
 ghost use Rattle.sheet.specs.Fields.{items_in};
-ghost use Rattle.sheet.specs.Functions.{parameter_reads, result_reads, function_of, function_item, functions_at};
+ghost use Rattle.sheet.specs.Functions.{FunctionList, listed, parameter_reads, result_reads, function_of, function_item};
 ghost use Rattle.sheet.specs.FunctionsOf.{functions_of};
 
 use crate::functions::{FunctionRecord, Functions};
 use crate::item::{Item, Known};
+use crate::part::Part;
 use crate::reader::Reader;
 use crate::refusal::Refusal;
 use crate::span::Span;
@@ -95,33 +96,33 @@ fn add_record(
     Ok(())
 }
 
-// One function more. A record is as long as its own counts say, whether or not they are in range.
-fn add_function(known: Known, r: &mut Reader, all: &mut Functions) -> Result<(), Refusal>
-    requires parameters { vec_len all.old.parameters ≤ 512 }
-    requires results { vec_len all.old.results ≤ 512 }
-    ensures said { Said result (λ _. (functions_of all.new, r.new.at)) (function_item known.entry.names r.old.bytes.now (functions_of all.old, r.old.at)) }
-    ensures same { r.new.bytes.now ≡ r.old.bytes.now }
-    ensures parameters { OnOk result (vec_len all.new.parameters ≤ vec_len all.old.parameters + 8) }
-    ensures results { OnOk result (vec_len all.new.results ≤ vec_len all.old.results + 8) }
-{
-    let parameters = r.peek(2)? as usize;
-    let results = r.peek(3 + 3 * parameters)? as usize;
-    let span = r.span(6 + 3 * parameters + results)?;
-    add_record(known, span, parameters, results, all)
-}
+impl<'a> Part<'a> for Functions {
+    ghost Value = { FunctionList };
 
-pub(crate) fn functions(heap: Global, r: &mut Reader, known: Known) -> Result<Functions, Refusal>
-    ensures said { Said result (λ f. (functions_of f, r.new.at)) (functions_at known.entry.names r.old.bytes.now r.old.at) }
-    ensures same { r.new.bytes.now ≡ r.old.bytes.now }
-{
-    let count = r.count(64)?;
-    let mut all = Functions {
-        records: Vec::new(heap),
-        parameters: Vec::new(heap),
-        results: Vec::new(heap),
-    };
-    for _ in 0..count {
-        add_function(known, r, &mut all)?;
+    ghost value = { functions_of };
+
+    ghost none = { listed [] [] [] [] };
+
+    ghost item = { λ k. function_item k.names };
+
+    ghost most = { 64 };
+
+    // said here, and in no ghost field of `Functions`: a record that is refused leaves its parameters there, without a function
+    ghost after = { λ n f. vec_len f.parameters ≤ 8 * n × vec_len f.results ≤ 8 * n };
+
+    fn empty(heap: Global) -> Functions {
+        Functions {
+            records: Vec::new(heap),
+            parameters: Vec::new(heap),
+            results: Vec::new(heap),
+        }
     }
-    Ok(all)
+
+    // A record is as long as its own counts say, whether or not they are in range.
+    fn add(&mut self, r: &mut Reader<'a>, known: Known) -> Result<(), Refusal> {
+        let parameters = r.peek(2)? as usize;
+        let results = r.peek(3 + 3 * parameters)? as usize;
+        let span = r.span(6 + 3 * parameters + results)?;
+        add_record(known, span, parameters, results, self)
+    }
 }

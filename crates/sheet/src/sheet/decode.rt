@@ -4,9 +4,8 @@ ghost use Rattle.sheet.specs.Outcome.{Said};
 ghost use Rattle.sheet.specs.Sheets.{head_at, decoded_at};
 ghost use Rattle.sheet.specs.SheetsOf.{decoded_of};
 
-use crate::functions::records::functions;
-use crate::item::{Known, items};
-use crate::names::names;
+use crate::item::Known;
+use crate::part::read_part;
 use crate::reader::Reader;
 use crate::refusal::{Refusal, hold};
 use crate::sheet::Sheet;
@@ -32,17 +31,18 @@ pub fn decode<'a>(heap: Global, bytes: &'a [u8]) -> Result<Sheet<'a>, Refusal>
 {
     let mut r = Reader::new(bytes);
     head(&mut r, bytes.len())?;
-    let names = names(heap, &mut r)?;
-    let none = Known::of(&names, &[], &[]);
-    let constants = items::<i64>(heap, &mut r, none, 1024)?;
-    let entries = items::<u16>(heap, &mut r, none, 4096)?;
+    // names, constants and entries refer to nothing before them
+    let none = Known::of(&[], &[], &[]);
+    let names: Vec<&[u8]> = read_part(heap, &mut r, none, 256)?;
+    let constants: Vec<i64> = read_part(heap, &mut r, none, 1024)?;
+    let entries: Vec<u16> = read_part(heap, &mut r, none, 4096)?;
     let known = Known::of(&names, &constants, &entries);
     let nodes_at = r.place() + 2;
-    let nodes = items(heap, &mut r, known, 2048)?;
+    let nodes = read_part(heap, &mut r, known, 2048)?;
     let globals_at = r.place() + 2;
-    let globals = items(heap, &mut r, known, 32)?;
+    let globals = read_part(heap, &mut r, known, 32)?;
     let functions_at = r.place();
-    let functions = functions(heap, &mut r, known)?;
+    let functions = read_part(heap, &mut r, known, 64)?;
     hold(r.place() == bytes.len(), Rule::Bytes, r.place())?;
     Ok(Sheet {
         names,
