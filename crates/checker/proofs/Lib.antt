@@ -45,3 +45,4 @@ pub mod Went
 pub mod WentStatements
 pub mod WentTypes
 pub mod Lookups
+pub mod Parts

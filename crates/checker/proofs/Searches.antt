@@ -1,11 +1,11 @@
 -- What a search through a list finds, and the tests of its items that it stands for.
-use Rattle.std.proofs.Common.{◌≡◌, ℕ, suc, ◌+◌, ◌<◌, ◌≤◌, Bool, true, false, cond, not, ◌||◌, eqb, List, [], ◌∷◌, ◌++◌, map, length, get_or, take, Some, None, Option, sym, refl, ap, ◌∙◌, append-nil, append_assoc, zero-add, arith}
+use Rattle.std.proofs.Common.{◌≡◌, ℕ, suc, ◌+◌, ◌<◌, ◌≤◌, Bool, true, false, cond, not, ◌||◌, eqb, List, [], ◌∷◌, ◌++◌, map, length, get_or, take, Some, Option, sym, refl, ap, ◌∙◌, append-nil, append_assoc, zero-add, arith}
 use Rattle.std.proofs.lemmas.List.{map-append}
 use Rattle.std.specs.List.{list_any, position_from}
 use Rattle.xi.specs.declared.rule.Rule.{Rule}
-use Rattle.sheet.specs.Outcome.{Outcome, good, bad, then, held, runs}
+use Rattle.sheet.specs.Outcome.{Outcome, then, held, runs}
 use Rattle.checker.specs.Checked.{has_name}
-use Rattle.checker.specs.Repeats.{repeated_in, repeated}
+use Rattle.checker.specs.Repeats.{fails_at, repeated_in, repeated}
 
 -- a name is among the names where some item has it
 pub has_name-any : {A : Type 0} (name : A → ℕ) (x : ℕ) (xs : List A) → list_any (λ a. eqb (name a) x) xs ≡ has_name name xs x
@@ -16,11 +16,6 @@ has_name-any name x (a ∷ xs) = ap (λ b. eqb (name a) x || b) (has_name-any na
 pub has_name-map : {A B : Type 0} (f : A → B) (name : B → ℕ) (x : ℕ) (xs : List A) → has_name name (map f xs) x ≡ has_name (λ a. name (f a)) xs x
 has_name-map f name x [] = refl
 has_name-map f name x (a ∷ xs) = ap (λ b. eqb (name (f a)) x || b) (has_name-map f name x xs)
-
--- the outcome where the first test that fails is that number
-abbrev pub fails_at : Rule → (ℕ → ℕ) → Option ℕ → Outcome (Unit {0})
-fails_at K p None = good tt
-fails_at K p (Some i) = bad K (p i)
 
 module _ (K : Rule) (p : ℕ → ℕ) (g : ℕ → Bool) where
   -- tests one after another, from i on
@@ -62,13 +57,6 @@ module _ {A : Type 0} (d : A) (K : Rule) (p : ℕ → ℕ) (xs : List A) where
 first_within : (i n j : ℕ) (b : Bool) (o : Option ℕ) → (o ≡ Some j → (i + 1 ≤ j) × (j < i + 1 + n)) → cond b (Some i) o ≡ Some j → (i ≤ j) × (j < i + (n + 1))
 first_within i n j true o h e = let z : i ≡ j = cc in (omega arith, omega arith)
 first_within i n j false o h e = let z : (i + 1 ≤ j) × (j < i + 1 + n) = h e in (omega arith, omega arith)
-
-position_from-within : {A : Type 0} (t : A → Bool) (xs : List A) (i j : ℕ) → position_from t i xs ≡ Some j → (i ≤ j) × (j < i + length xs)
-position_from-within t [] i j e = absurd (let z : ◌≡◌ {A = ℕ} 0 1 = cc in omega arith)
-position_from-within t (x ∷ xs) i j e = let z = first_within i (length xs) j (t x) (position_from t (i + 1) xs) (λ q. position_from-within t xs (i + 1) j q) e in (omega arith, omega arith)
-
-pub position-within : {A : Type 0} (t : A → Bool) (xs : List A) (j : ℕ) → position_from t 0 xs ≡ Some j → j < length xs
-position-within t xs j e = let z = position_from-within t xs 0 j e in omega arith
 
 repeated_in-within : {A : Type 0} (name : A → ℕ) (seen xs : List A) (i j : ℕ) → repeated_in name seen i xs ≡ Some j → (i ≤ j) × (j < i + length xs)
 repeated_in-within name seen [] i j e = absurd (let z : ◌≡◌ {A = ℕ} 0 1 = cc in omega arith)

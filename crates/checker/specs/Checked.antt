@@ -1,5 +1,5 @@
 -- Which sheets are accepted: reading, the tree, the names of globals, functions and parameters, `main`, and the bodies, in this order.
-use Rattle.std.specs.Prelude.{ℕ, ◌+◌, ◌*◌, Bool, false, cond, not, ◌&&◌, ◌||◌, List, [], ◌∷◌, length, get_or, take, None, codes, ◌==◌, slice_index, slice_index_or}
+use Rattle.std.specs.Prelude.{◌≡◌, ℕ, ◌+◌, ◌*◌, ◌<◌, Bool, false, cond, not, ◌&&◌, ◌||◌, List, [], ◌∷◌, length, get_or, take, None, codes, ◌==◌, slice_index, slice_index_or}
 use Rattle.std.proofs.Math.Option.{Option, none, some}
 use Rattle.std.specs.Str.{bytes_eq}
 use Rattle.xi.specs.declared.program.GlobalVariable.{GlobalVariable}
@@ -67,6 +67,10 @@ is_main P F = bytes_eq (slice_index_or P.names F.name []) (codes "main")
 abbrev pub main_in : Program → List Function → Option Function
 main_in P [] = none
 main_in P (F ∷ Fs) = cond (is_main P F) (some F) (main_in P Fs)
+
+-- `main` is function i
+abbrev pub IsMain : Decoded → ℕ → Type 0
+IsMain D i = (i < length D.program.functions) × (main_in D.program D.program.functions ≡ some (function_at D.program i))
 
 -- `main` has one parameter, of type 4, and no results
 abbrev pub takes_rows : List ℕ → Bool

@@ -9,5 +9,5 @@ pub mod Wants
 pub mod Tests
 pub mod Exact
 pub mod Singles
-pub mod Contents
 pub mod Repeats
+pub mod Nodes

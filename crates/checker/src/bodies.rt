@@ -4,12 +4,13 @@ ghost use Rattle.sheet.specs.Outcome.{Said};
 ghost use Rattle.xi.specs.declared.program.Parameter.{Parameter as P};
 ghost use Rattle.xi.specs.Typing.{binding, numbers_of, pushed};
 ghost use Rattle.checker.specs.Checked.{body_held, bodies_held};
-ghost use Rattle.checker.specs.Contents.{contents};
 ghost use Rattle.checker.specs.Facts.{FunctionSized};
+ghost use Rattle.checker.specs.Nodes.{whole};
 ghost use Rattle.checker.specs.Scopes.{scope_of};
 ghost use Rattle.checker.specs.Walk.{ends_of, is_empty};
 
 use crate::ends::ends;
+use crate::node_at::NodeAt;
 use crate::scope::Scope;
 use crate::statements::statement;
 use crate::trees::Trees;
@@ -30,33 +31,31 @@ fn parameter_scope(parameters: &[Parameter]) -> Scope
     scope
 }
 
-// The body `n` of a function that owes such results ends with a return, if it owes any.
-fn ends_as_owed(trees: &Trees, n: usize, owed: &[Ty]) -> bool
-    requires { n < length (contents trees.now.sheet).program.nodes }
-    ensures { result ≡ (is_empty (numbers_of owed.now) || ends_of (contents trees.now.sheet).program n) }
+// The body of a function that owes such results ends with a return, if it owes any.
+fn ends_as_owed(body: NodeAt, owed: &[Ty]) -> bool
+    ensures { result ≡ (is_empty (numbers_of owed.now) || ends_of (whole body.entry).program body.entry.number) }
 {
-    owed.is_empty() || ends(trees, n)
+    owed.is_empty() || ends(body)
 }
 
 // The body of a function, and that it ends where the function has results.
 fn body_of(trees: &Trees, function: Function) -> Result<(), Refusal>
-    requires sized { FunctionSized (contents trees.now.sheet).program function }
-    requires bodied { function.body < length (contents trees.now.sheet).program.nodes }
-    ensures { Said result (λ _. tt) (body_held (contents trees.now.sheet) function) }
+    requires sized { FunctionSized trees.now.sheet.program function }
+    requires bodied { function.body < length trees.now.sheet.program.nodes }
+    ensures { Said result (λ _. tt) (body_held trees.now.sheet function) }
 {
     let owed = trees.sheet.results(function);
     let scope = parameter_scope(trees.sheet.parameters(function));
-    let n = function.body as usize;
-    statement(trees, n, owed, scope, false)?;
-    hold(
-        ends_as_owed(trees, n, owed),
-        Rule::Return,
-        trees.sheet.offset(n),
-    )
+    let body = NodeAt {
+        trees,
+        number: function.body as usize,
+    };
+    statement(body, owed, scope, false)?;
+    hold(ends_as_owed(body, owed), Rule::Return, body.offset())
 }
 
 pub(crate) fn bodies(trees: &Trees) -> Result<(), Refusal>
-    ensures { Said result (λ _. tt) (bodies_held (contents trees.now.sheet)) }
+    ensures { Said result (λ _. tt) (bodies_held trees.now.sheet) }
 {
     for record in trees.sheet.functions() {
         body_of(trees, record.function)?;

@@ -4,7 +4,6 @@ ghost use Rattle.sheet.specs.Outcome.{Said};
 ghost use Rattle.xi.specs.Tree.{all, at, suits, sort_of};
 ghost use Rattle.checker.specs.Trees.{asked, claimed, claimed_all, parts_in, nodes_claimed, claimed_as_body, bodies_claimed, is_block};
 ghost use Rattle.checker.specs.Facts.{EachBelow, PartsBelow, Falling, Bodied, Sized};
-ghost use Rattle.checker.specs.Contents.{contents};
 
 use crate::mark::Mark;
 use crate::place::Place;
@@ -51,7 +50,8 @@ fn suits(place: Place, node: Node) -> bool
 }
 
 // Notes that `part` is a part of node `n`, in such a place.
-// The marks stay beside the sheet: with both in one struct each clause would have to add that the sheet stays as it was.
+// The marks stay beside the sheet: in a struct of both each `requires` on their length would be an `ensures` that the sheet stays as it was. There
+// are no trees yet, so a node is its number.
 fn claim(
     sheet: &ReadSheet,
     marks: &mut [Mark],
@@ -59,13 +59,14 @@ fn claim(
     part: u16,
     place: Place,
 ) -> Result<(), Refusal>
-    requires known { n < length (contents sheet.now).program.nodes }
-    requires long { length marks.old ≡ length (contents sheet.now).program.nodes }
-    ensures said { Said result (λ _. marks.new) (claimed (contents sheet.now) n (at (asked place) part) marks.old) }
+    requires known { n < length sheet.now.program.nodes }
+    requires long { length marks.old ≡ length sheet.now.program.nodes }
+    ensures said { Said result (λ _. marks.new) (claimed sheet.now n (at (asked place) part) marks.old) }
     ensures below { OnOk result (part < n) }
 {
     let at = sheet.offset(n);
     let part = part as usize;
+    // no `hold`: what the test says is needed behind it
     if part >= n || !suits(place, sheet.node_at(part)) || marks[part] != Mark::Free {
         return Err(Refusal::Broken {
             rule: Rule::Tree,
@@ -84,9 +85,9 @@ fn claim_run(
     parts: &[u16],
     place: Place,
 ) -> Result<(), Refusal>
-    requires known { n < length (contents sheet.now).program.nodes }
-    requires long { length marks.old ≡ length (contents sheet.now).program.nodes }
-    ensures said { Said result (λ _. marks.new) (claimed_all (contents sheet.now) n (all (asked place) parts.now) marks.old) }
+    requires known { n < length sheet.now.program.nodes }
+    requires long { length marks.old ≡ length sheet.now.program.nodes }
+    ensures said { Said result (λ _. marks.new) (claimed_all sheet.now n (all (asked place) parts.now) marks.old) }
     ensures below { OnOk result (EachBelow n parts.now) }
 {
     for part in parts {
@@ -97,11 +98,11 @@ fn claim_run(
 
 // The parts of node `n`, left to right.
 fn claim_parts(sheet: &ReadSheet, marks: &mut [Mark], n: usize, node: Node) -> Result<(), Refusal>
-    requires known { n < length (contents sheet.now).program.nodes }
-    requires sized { Sized (contents sheet.now).program node }
-    requires long { length marks.old ≡ length (contents sheet.now).program.nodes }
-    ensures said { Said result (λ _. marks.new) (claimed_all (contents sheet.now) n (parts_in (contents sheet.now).program node) marks.old) }
-    ensures below { OnOk result (PartsBelow (contents sheet.now).program n node) }
+    requires known { n < length sheet.now.program.nodes }
+    requires sized { Sized sheet.now.program node }
+    requires long { length marks.old ≡ length sheet.now.program.nodes }
+    ensures said { Said result (λ _. marks.new) (claimed_all sheet.now n (parts_in sheet.now.program node) marks.old) }
+    ensures below { OnOk result (PartsBelow sheet.now.program n node) }
 {
     match node {
         Node::Number { .. }
@@ -112,21 +113,16 @@ fn claim_parts(sheet: &ReadSheet, marks: &mut [Mark], n: usize, node: Node) -> R
         | Node::Discard => Ok(()),
         Node::Element { array, index } => {
             claim(sheet, marks, n, array, Place::Expression)?;
-            claim(sheet, marks, n, index, Place::Expression)?;
-            Ok(())
+            claim(sheet, marks, n, index, Place::Expression)
         }
         Node::Binary { left, right, .. } => {
             claim(sheet, marks, n, left, Place::Expression)?;
-            claim(sheet, marks, n, right, Place::Expression)?;
-            Ok(())
+            claim(sheet, marks, n, right, Place::Expression)
         }
         Node::Length { array: part }
         | Node::Unary { operand: part, .. }
         | Node::DeclareValue { value: part, .. }
-        | Node::Assign { value: part, .. } => {
-            claim(sheet, marks, n, part, Place::Expression)?;
-            Ok(())
-        }
+        | Node::Assign { value: part, .. } => { claim(sheet, marks, n, part, Place::Expression) }
         Node::Constructor { elements: run, .. }
         | Node::Call { arguments: run, .. }
         | Node::LibraryCall { arguments: run, .. }
@@ -145,13 +141,11 @@ fn claim_parts(sheet: &ReadSheet, marks: &mut [Mark], n: usize, node: Node) -> R
         } => {
             claim(sheet, marks, n, array, Place::Expression)?;
             claim(sheet, marks, n, index, Place::Expression)?;
-            claim(sheet, marks, n, value, Place::Expression)?;
-            Ok(())
+            claim(sheet, marks, n, value, Place::Expression)
         }
         Node::If { guard, then: body } | Node::While { guard, body } => {
             claim(sheet, marks, n, guard, Place::Expression)?;
-            claim(sheet, marks, n, body, Place::Statement)?;
-            Ok(())
+            claim(sheet, marks, n, body, Place::Statement)
         }
         Node::IfElse {
             guard,
@@ -160,13 +154,9 @@ fn claim_parts(sheet: &ReadSheet, marks: &mut [Mark], n: usize, node: Node) -> R
         } => {
             claim(sheet, marks, n, guard, Place::Expression)?;
             claim(sheet, marks, n, then, Place::Statement)?;
-            claim(sheet, marks, n, otherwise, Place::Statement)?;
-            Ok(())
+            claim(sheet, marks, n, otherwise, Place::Statement)
         }
-        Node::CallStatement { call } => {
-            claim(sheet, marks, n, call, Place::Call)?;
-            Ok(())
-        }
+        Node::CallStatement { call } => { claim(sheet, marks, n, call, Place::Call) }
         Node::Block { statements } => {
             claim_run(sheet, marks, n, sheet.entries(statements), Place::Statement)
         }
@@ -174,9 +164,9 @@ fn claim_parts(sheet: &ReadSheet, marks: &mut [Mark], n: usize, node: Node) -> R
 }
 
 pub(crate) fn claim_all(sheet: &ReadSheet, marks: &mut [Mark]) -> Result<(), Refusal>
-    requires { length marks.old ≡ length (contents sheet.now).program.nodes }
-    ensures said { Said result (λ _. marks.new) (nodes_claimed (contents sheet.now) marks.old) }
-    ensures below { OnOk result (Falling (contents sheet.now).program) }
+    requires { length marks.old ≡ length sheet.now.program.nodes }
+    ensures said { Said result (λ _. marks.new) (nodes_claimed sheet.now marks.old) }
+    ensures below { OnOk result (Falling sheet.now.program) }
 {
     for (n, node) in sheet.nodes().iter().enumerate() {
         claim_parts(sheet, marks, n, *node)?;
@@ -192,9 +182,9 @@ fn is_block(node: Node) -> bool
 
 // Notes that `body` is the body of a function whose record is at `at`.
 fn claim_body(sheet: &ReadSheet, marks: &mut [Mark], at: usize, body: u16) -> Result<(), Refusal>
-    requires { length marks.old ≡ length (contents sheet.now).program.nodes }
-    ensures said { Said result (λ _. marks.new) (claimed_as_body (contents sheet.now) body at marks.old) }
-    ensures bodied { OnOk result (body < length (contents sheet.now).program.nodes) }
+    requires { length marks.old ≡ length sheet.now.program.nodes }
+    ensures said { Said result (λ _. marks.new) (claimed_as_body sheet.now body at marks.old) }
+    ensures bodied { OnOk result (body < length sheet.now.program.nodes) }
 {
     let body = body as usize;
     if body >= sheet.nodes().len() || !is_block(sheet.node_at(body)) || marks[body] != Mark::Free {
@@ -208,9 +198,9 @@ fn claim_body(sheet: &ReadSheet, marks: &mut [Mark], at: usize, body: u16) -> Re
 }
 
 pub(crate) fn claim_bodies(sheet: &ReadSheet, marks: &mut [Mark]) -> Result<(), Refusal>
-    requires { length marks.old ≡ length (contents sheet.now).program.nodes }
-    ensures said { Said result (λ _. marks.new) (bodies_claimed (contents sheet.now) marks.old) }
-    ensures bodied { OnOk result (Bodied (contents sheet.now).program) }
+    requires { length marks.old ≡ length sheet.now.program.nodes }
+    ensures said { Said result (λ _. marks.new) (bodies_claimed sheet.now marks.old) }
+    ensures bodied { OnOk result (Bodied sheet.now.program) }
 {
     for record in sheet.functions() {
         claim_body(sheet, marks, record.at, record.function.body)?;

@@ -1,18 +1,16 @@
 // The types of expressions.
-ghost use Rattle.std.specs.Prelude.{◌≡◌, length, IfOk, OnOk, ◌<◌, ℕ};
+ghost use Rattle.std.specs.Prelude.{◌≡◌, length, IfOk, OnOk};
 ghost use Rattle.sheet.specs.Outcome.{Said};
 ghost use Rattle.xi.specs.Typing.{numbers_of};
-ghost use Rattle.checker.specs.Contents.{contents};
-ghost use Rattle.checker.specs.Facts.{EachBelow};
+ghost use Rattle.checker.specs.Nodes.{whole, offset_at, types_in};
 ghost use Rattle.checker.specs.Scopes.{scope_of};
-ghost use Rattle.checker.specs.Trees.{offset_of};
-ghost use Rattle.checker.specs.Walk.{fitting, argued, type_of, call_of};
+ghost use Rattle.checker.specs.Walk.{fitting, argued, call_of};
 ghost use Rattle.checker.specs.Wants.{wanted_types};
 
 use crate::library::{gives, takes};
+use crate::node_at::{NodeAt, Parts};
 use crate::operators::{binary, operands, unary};
 use crate::scope::Scope;
-use crate::trees::Trees;
 use crate::wanted::Wanted;
 use crate::wanted::at::{is_wanted, wanted_count};
 use sheet::refusal::{Refusal, hold};
@@ -21,21 +19,13 @@ use xi::rule::Rule;
 
 // Whether the values of the parts have the types that are wanted.
 #[cycle(arguments_call_expression_values)]
-pub(crate) fn values(
-    trees: &Trees,
-    n: usize,
-    parts: &[u16],
-    scope: &Scope,
-    wanted: Wanted,
-) -> Result<bool, Refusal>
-    requires known { n < length (contents trees.now.sheet).program.nodes }
-    requires below { EachBelow n parts.now }
-    ensures { Said result (λ b. b) (fitting (type_of (contents trees.now.sheet) (scope_of scope.now)) parts.now (wanted_types wanted.entry (length parts.now))) }
+pub(crate) fn values(parts: Parts, scope: &Scope, wanted: Wanted) -> Result<bool, Refusal>
+    ensures { Said result (λ b. b) (fitting (types_in parts.entry.node scope.now) parts.entry.numbers.now (wanted_types wanted.entry (length parts.entry.numbers.now))) }
 {
     let mut fit = true;
-    for (i, part) in parts.iter().enumerate() {
-        let ty = expression(trees, *part as usize, scope)?;
-        if !is_wanted(wanted, parts.len(), i, ty) {
+    for (i, part) in parts.numbers.iter().enumerate() {
+        let ty = expression(parts.node.part(*part), scope)?;
+        if !is_wanted(wanted, parts.numbers.len(), i, ty) {
             fit = false;
         }
     }
@@ -45,62 +35,49 @@ pub(crate) fn values(
 // The arguments of a call of what gives so many results.
 #[cycle(arguments_call_expression_values)]
 fn arguments(
-    trees: &Trees,
-    n: usize,
-    parts: &[u16],
+    parts: Parts,
     scope: &Scope,
     asked: usize,
     wanted: Wanted,
     results: usize,
 ) -> Result<(), Refusal>
-    requires known { n < length (contents trees.now.sheet).program.nodes }
-    requires below { EachBelow n parts.now }
-    ensures said { Said result (λ _. tt) (argued (type_of (contents trees.now.sheet) (scope_of scope.now)) parts.now asked (offset_of (contents trees.now.sheet) n) (wanted_types wanted.entry (length parts.now)) results) }
+    ensures said { Said result (λ _. tt) (argued (types_in parts.entry.node scope.now) parts.entry.numbers.now asked (offset_at parts.entry.node) (wanted_types wanted.entry (length parts.entry.numbers.now)) results) }
     ensures many { OnOk result (results ≡ asked) }
 {
-    let at = trees.sheet.offset(n);
-    let count = parts.len();
+    let at = parts.node.offset();
+    let count = parts.numbers.len();
     hold(count == wanted_count(wanted, count), Rule::Count, at)?;
     hold(results == asked, Rule::Count, at)?;
-    let fit = values(trees, n, parts, scope, wanted)?;
+    let fit = values(parts, scope, wanted)?;
     hold(fit, Rule::Type, at)
 }
 
 // The types of the results of a call, where so many are asked.
 #[cycle(arguments_call_expression_values)]
 pub(crate) fn call<'s>(
-    trees: &'s Trees,
-    n: usize,
+    node: NodeAt<'s, '_>,
     scope: &Scope,
     asked: usize,
 ) -> Result<&'s [Ty], Refusal>
-    requires { n < length (contents trees.now.sheet).program.nodes }
-    ensures said { Said result (λ ts. numbers_of ts.now) (call_of (contents trees.now.sheet) (scope_of scope.now) asked n) }
+    ensures said { Said result (λ ts. numbers_of ts.now) (call_of (whole node.entry) (scope_of scope.now) asked node.entry.number) }
     ensures many { IfOk result (λ ts. length ts.now ≡ asked) }
 {
-    let at = trees.sheet.offset(n);
-    match trees.expression_node(n) {
+    let at = node.offset();
+    let sheet = &node.trees.sheet;
+    match node.expression_node() {
         Node::Call {
             name,
             arguments: run,
         } => {
-            let function = trees.sheet.function_named(name);
+            let function = sheet.function_named(name);
             let function = function.ok_or(Refusal::Broken {
                 rule: Rule::Unknown,
                 at,
             })?;
-            let parameters = trees.sheet.parameters(function);
-            let results = trees.sheet.results(function);
+            let parameters = sheet.parameters(function);
+            let results = sheet.results(function);
             let wanted = Wanted::Parameters { parameters };
-            arguments(
-                trees,
-                n,
-                trees.sheet.entries(run),
-                scope,
-                asked,
-                wanted,
-                results.len(),
-            )?;
+            arguments(node.parts(run), scope, asked, wanted, results.len())?;
             Ok(results)
         }
         Node::LibraryCall {
@@ -110,17 +87,10 @@ pub(crate) fn call<'s>(
             let types = takes(function);
             let results = gives(function);
             let wanted = Wanted::Types { types };
-            arguments(
-                trees,
-                n,
-                trees.sheet.entries(run),
-                scope,
-                asked,
-                wanted,
-                results.len(),
-            )?;
+            arguments(node.parts(run), scope, asked, wanted, results.len())?;
             Ok(results)
         }
+        // no trees have another node in this place
         _ => Err(Refusal::Broken {
             rule: Rule::Tree,
             at,
@@ -130,22 +100,24 @@ pub(crate) fn call<'s>(
 
 // The type of an expression.
 #[cycle(arguments_call_expression_values)]
-pub(crate) fn expression(trees: &Trees, n: usize, scope: &Scope) -> Result<Ty, Refusal>
-    requires { n < length (contents trees.now.sheet).program.nodes }
-    ensures { Said result (λ t. t.number) (type_of (contents trees.now.sheet) (scope_of scope.now) n) }
+pub(crate) fn expression(node: NodeAt, scope: &Scope) -> Result<Ty, Refusal>
+    ensures { Said result (λ t. t.number) (types_in node.entry scope.now node.entry.number) }
 {
-    let at = trees.sheet.offset(n);
-    match trees.expression_node(n) {
+    let at = node.offset();
+    match node.expression_node() {
         Node::Number { .. } => Ok(Ty::INT),
         Node::Truth { .. } => Ok(Ty::BOOL),
         Node::Text { .. } => Ok(Ty::INTS),
-        Node::Variable { name } => trees.sheet.variable(scope, name).ok_or(Refusal::Broken {
-            rule: Rule::Unknown,
-            at,
-        }),
+        Node::Variable { name } => {
+            let ty = node.trees.sheet.variable(scope, name);
+            ty.ok_or(Refusal::Broken {
+                rule: Rule::Unknown,
+                at,
+            })
+        }
         Node::Element { array, index } => {
-            let array = expression(trees, array as usize, scope)?;
-            let index = expression(trees, index as usize, scope)?;
+            let array = expression(node.part(array), scope)?;
+            let index = expression(node.part(index), scope)?;
             match array.element() {
                 Some(element) if index == Ty::INT => Ok(element),
                 _ => Err(Refusal::Broken {
@@ -155,11 +127,11 @@ pub(crate) fn expression(trees: &Trees, n: usize, scope: &Scope) -> Result<Ty, R
             }
         }
         Node::Length { array } => {
-            let array = expression(trees, array as usize, scope)?;
+            let array = expression(node.part(array), scope)?;
             operands(array.element().is_some(), at, Ty::INT)
         }
         Node::Unary { operator, operand } => {
-            let operand = expression(trees, operand as usize, scope)?;
+            let operand = expression(node.part(operand), scope)?;
             unary(operator, operand, at)
         }
         Node::Binary {
@@ -167,24 +139,20 @@ pub(crate) fn expression(trees: &Trees, n: usize, scope: &Scope) -> Result<Ty, R
             left,
             right,
         } => {
-            let left = expression(trees, left as usize, scope)?;
-            let right = expression(trees, right as usize, scope)?;
+            let left = expression(node.part(left), scope)?;
+            let right = expression(node.part(right), scope)?;
             binary(operator, left, right, at)
         }
         Node::Constructor { element, elements } => {
-            let fit = values(
-                trees,
-                n,
-                trees.sheet.entries(elements),
-                scope,
-                Wanted::Each { ty: element },
-            )?;
+            let wanted = Wanted::Each { ty: element };
+            let fit = values(node.parts(elements), scope, wanted)?;
             operands(fit, at, element.array())
         }
         Node::Call { .. } | Node::LibraryCall { .. } => {
-            let results = call(trees, n, scope, 1)?;
+            let results = call(node, scope, 1)?;
             Ok(results[0])
         }
+        // no trees have another node in this place
         _ => Err(Refusal::Broken {
             rule: Rule::Tree,
             at,

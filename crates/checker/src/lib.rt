@@ -12,6 +12,7 @@ mod main_function;
 mod mark;
 mod named;
 mod names;
+mod node_at;
 mod operators;
 mod place;
 mod read_sheet;

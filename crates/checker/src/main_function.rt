@@ -2,8 +2,7 @@
 ghost use Rattle.std.specs.Prelude.{◌≡◌, ◌<◌, length, IfOk, MatchOption};
 ghost use Rattle.std.proofs.Math.Option.{none, some};
 ghost use Rattle.sheet.specs.Outcome.{Said};
-ghost use Rattle.checker.specs.Checked.{is_main, main_in, main_fits, main_held};
-ghost use Rattle.checker.specs.Contents.{contents};
+ghost use Rattle.checker.specs.Checked.{IsMain, is_main, main_in, main_fits, main_held};
 ghost use Rattle.checker.specs.Facts.{FunctionSized};
 ghost use Rattle.checker.specs.Trees.{function_at};
 
@@ -14,19 +13,19 @@ use xi::program::{Function, Parameter};
 use xi::rule::Rule;
 
 fn is_main(sheet: &ReadSheet, function: Function) -> bool
-    ensures { result ≡ is_main (contents sheet.now).program function }
+    ensures { result ≡ is_main sheet.now.program function }
 {
     let main: &[u8] = b"main";
-    match sheet.sheet.names.get(function.name as usize) {
-        Some(name) => *name == main,
-        None => false,
-    }
+    sheet
+        .names()
+        .get(function.name as usize)
+        .is_some_and(|name| *name == main)
 }
 
 // `main` takes one array of arrays of numbers, and gives nothing.
 fn fits(sheet: &ReadSheet, function: Function) -> bool
-    requires { FunctionSized (contents sheet.now).program function }
-    ensures { result ≡ main_fits (contents sheet.now).program (some function) }
+    requires { FunctionSized sheet.now.program function }
+    ensures { result ≡ main_fits sheet.now.program (some function) }
 {
     match sheet.parameters(function) {
         [rows] if rows.ty == Ty::ROWS => sheet.results(function).is_empty(),
@@ -36,7 +35,7 @@ fn fits(sheet: &ReadSheet, function: Function) -> bool
 
 // The number of the function that is named `main`.
 fn main_number(sheet: &ReadSheet) -> Option<usize>
-    ensures { MatchOption result (main_in (contents sheet.now).program (contents sheet.now).program.functions ≡ none) (λ i. (i < length (contents sheet.now).program.functions) × (main_in (contents sheet.now).program (contents sheet.now).program.functions ≡ some (function_at (contents sheet.now).program i))) }
+    ensures { MatchOption result (main_in sheet.now.program sheet.now.program.functions ≡ none) (IsMain sheet.now) }
 {
     sheet
         .functions()
@@ -46,8 +45,8 @@ fn main_number(sheet: &ReadSheet) -> Option<usize>
 
 // The number of `main`, which there must be.
 pub(crate) fn main_function(sheet: &ReadSheet) -> Result<usize, Refusal>
-    ensures said { Said result (λ _. tt) (main_held (contents sheet.now)) }
-    ensures main { IfOk result (λ i. (i < length (contents sheet.now).program.functions) × (main_in (contents sheet.now).program (contents sheet.now).program.functions ≡ some (function_at (contents sheet.now).program i))) }
+    ensures said { Said result (λ _. tt) (main_held sheet.now) }
+    ensures main { IfOk result (IsMain sheet.now) }
 {
     let at = sheet.functions_offset();
     let number = main_number(sheet).ok_or(Refusal::Broken {

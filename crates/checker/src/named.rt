@@ -45,7 +45,7 @@ pub(crate) fn has_name<T: Named>(items: &[T], name: u16) -> bool
     items.iter().any(|item| item.name_number() == name)
 }
 
-// The number of the first item of that name. There are at most 64 items, so a map would cost more than the search.
+// The number of the first item of that name. There are at most 64 items, so a map would be no plainer, and has to be made.
 pub(crate) fn number_of<T: Named>(items: &[T], name: u16) -> Option<usize>
     ensures { result ≡ position_from (λ item. T.Named.name item == name) 0 items.now }
 {

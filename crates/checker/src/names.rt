@@ -2,8 +2,7 @@
 ghost use Rattle.std.specs.Prelude.{◌≡◌, ◌<◌, ◌||◌, length, IfOk};
 ghost use Rattle.std.proofs.Math.Option.{some};
 ghost use Rattle.sheet.specs.Outcome.{Said};
-ghost use Rattle.checker.specs.Checked.{has_name, global_name, parameter_name, globals_free, functions_free, parameters_free_in, parameters_free, main_in, names_held};
-ghost use Rattle.checker.specs.Contents.{contents};
+ghost use Rattle.checker.specs.Checked.{IsMain, has_name, global_name, parameter_name, globals_free, functions_free, parameters_free_in, parameters_free, main_in, names_held};
 ghost use Rattle.checker.specs.Trees.{function_at};
 
 use crate::main_function::main_function;
@@ -15,7 +14,7 @@ use xi::rule::Rule;
 
 // No global has the name of an earlier one.
 fn globals_free(sheet: &ReadSheet) -> Result<(), Refusal>
-    ensures { Said result (λ _. tt) (globals_free (contents sheet.now)) }
+    ensures { Said result (λ _. tt) (globals_free sheet.now) }
 {
     match repeated(sheet.globals()) {
         None => Ok(()),
@@ -26,9 +25,10 @@ fn globals_free(sheet: &ReadSheet) -> Result<(), Refusal>
     }
 }
 
-// No function has the name of an earlier one. Its offset stands in its record, where a global's is computed: so these two stay two.
+// No function has the name of an earlier one. Its offset stands in its record, where a global's is computed: one function for both
+// would take a closure, whose contract is as long as what it saves.
 fn functions_free(sheet: &ReadSheet) -> Result<(), Refusal>
-    ensures { Said result (λ _. tt) (functions_free (contents sheet.now)) }
+    ensures { Said result (λ _. tt) (functions_free sheet.now) }
 {
     match repeated(sheet.functions()) {
         None => Ok(()),
@@ -62,7 +62,7 @@ fn parameters_free_in(
 }
 
 fn parameters_free(sheet: &ReadSheet) -> Result<(), Refusal>
-    ensures { Said result (λ _. tt) (parameters_free (contents sheet.now)) }
+    ensures { Said result (λ _. tt) (parameters_free sheet.now) }
 {
     for record in sheet.functions() {
         let parameters = sheet.parameters(record.function);
@@ -73,8 +73,8 @@ fn parameters_free(sheet: &ReadSheet) -> Result<(), Refusal>
 
 // All of these names, and the number of `main`.
 pub(crate) fn names(sheet: &ReadSheet) -> Result<usize, Refusal>
-    ensures said { Said result (λ _. tt) (names_held (contents sheet.now)) }
-    ensures main { IfOk result (λ i. (i < length (contents sheet.now).program.functions) × (main_in (contents sheet.now).program (contents sheet.now).program.functions ≡ some (function_at (contents sheet.now).program i))) }
+    ensures said { Said result (λ _. tt) (names_held sheet.now) }
+    ensures main { IfOk result (IsMain sheet.now) }
 {
     globals_free(sheet)?;
     functions_free(sheet)?;

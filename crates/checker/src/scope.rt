@@ -1,4 +1,5 @@
-// The parameters and locals in scope, by value: those of a block are dropped with it.
+// The parameters and locals in scope, by value: those of a block are dropped with it. So it is `Copy`, and has no model: a view would forget the
+// places that are not in use, and not give them back.
 ghost use Rattle.std.specs.Prelude.{ℕ, ◌≤◌};
 
 use xi::program::Parameter;

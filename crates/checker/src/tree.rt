@@ -1,8 +1,10 @@
 // The nodes of a sheet form trees: each is a part of one node or the body of one function, and none lies too deep.
-ghost use Rattle.std.specs.Prelude.{◌≡◌, length, replicate, IfOk, OnOk};
+ghost use Rattle.std.specs.Prelude.{◌≡◌, length, replicate, IfOk, IfSome, OnOk, nat_lt, ◌<◌};
+ghost use Rattle.std.specs.List.{position_from};
 ghost use Rattle.sheet.specs.Outcome.{Said};
-ghost use Rattle.checker.specs.Trees.{all_used, deeper, level_by, levels, all_shallow, tree_of};
-ghost use Rattle.checker.specs.Contents.{contents};
+ghost use Rattle.xi.specs.declared.rule.Rule.TheVariants.{Tree as TreeRule};
+ghost use Rattle.checker.specs.Repeats.{fails_at};
+ghost use Rattle.checker.specs.Trees.{offset_of, is_free, all_used, deeper, level_by, levels, all_shallow, tree_of};
 ghost use Rattle.checker.specs.Facts.{Falling, Bodied};
 ghost use Rattle.checker.specs.declared.mark.Mark.TheVariants.{Free};
 
@@ -14,12 +16,12 @@ use sheet::refusal::Refusal;
 use std::alloc::Global;
 use xi::rule::Rule;
 
-// Each node is a part or a body.
-fn all_used(sheet: &ReadSheet, marks: &[Mark]) -> Result<(), Refusal>
-    requires { length marks.now ≡ length (contents sheet.now).program.nodes }
-    ensures { Said result (λ _. tt) (all_used (contents sheet.now) marks.now) }
+// The rule of the tree is broken at the node that was found, if one was.
+fn broken_at(sheet: &ReadSheet, found: Option<usize>) -> Result<(), Refusal>
+    requires { IfSome found (λ n. n < length sheet.now.program.nodes) }
+    ensures { Said result (λ _. tt) (fails_at TreeRule (offset_of sheet.now) found) }
 {
-    match marks.iter().position(|mark| *mark == Mark::Free) {
+    match found {
         None => Ok(()),
         Some(n) => Err(Refusal::Broken {
             rule: Rule::Tree,
@@ -28,11 +30,26 @@ fn all_used(sheet: &ReadSheet, marks: &[Mark]) -> Result<(), Refusal>
     }
 }
 
+fn first_free(marks: &[Mark]) -> Option<usize>
+    ensures first { result ≡ position_from is_free 0 marks.now }
+    ensures within { IfSome result (λ n. n < length marks.now) }
+{
+    marks.iter().position(|mark| *mark == Mark::Free)
+}
+
+// Each node is a part or a body.
+fn all_used(sheet: &ReadSheet, marks: &[Mark]) -> Result<(), Refusal>
+    requires { length marks.now ≡ length sheet.now.program.nodes }
+    ensures { Said result (λ _. tt) (all_used sheet.now marks.now) }
+{
+    broken_at(sheet, first_free(marks))
+}
+
 // The level below `level`. What is too deep stays at 33.
 fn level_below(level: u8) -> u8
     ensures { result ≡ deeper level }
 {
-    if level < 33 { level + 1 } else { 33 }
+    level.saturating_add(1).min(33)
 }
 
 // The level of a node with such a mark. A node that it is a part of has its level already.
@@ -62,28 +79,30 @@ fn find_levels(marks: &[Mark], found: &mut [u8])
     }
 }
 
-fn all_shallow(sheet: &ReadSheet, found: &[u8]) -> Result<(), Refusal>
-    requires { length found.now ≡ length (contents sheet.now).program.nodes }
-    ensures { Said result (λ _. tt) (all_shallow (contents sheet.now) found.now) }
+fn first_too_deep(found: &[u8]) -> Option<usize>
+    ensures first { result ≡ position_from (nat_lt 32) 0 found.now }
+    ensures within { IfSome result (λ n. n < length found.now) }
 {
-    match found.iter().position(|level| *level > 32) {
-        None => Ok(()),
-        Some(n) => Err(Refusal::Broken {
-            rule: Rule::Tree,
-            at: sheet.offset(n),
-        }),
-    }
+    found.iter().position(|level| *level > 32)
+}
+
+// No node is too deep.
+fn all_shallow(sheet: &ReadSheet, found: &[u8]) -> Result<(), Refusal>
+    requires { length found.now ≡ length sheet.now.program.nodes }
+    ensures { Said result (λ _. tt) (all_shallow sheet.now found.now) }
+{
+    broken_at(sheet, first_too_deep(found))
 }
 
 // The tests over marks and levels, one for each node.
 fn tree_by(sheet: &ReadSheet, marks: &mut [Mark], found: &mut [u8]) -> Result<(), Refusal>
-    requires unmarked { marks.old ≡ replicate (length (contents sheet.now).program.nodes) Free }
-    requires unfound { found.old ≡ replicate (length (contents sheet.now).program.nodes) 0 }
-    requires long { length marks.old ≡ length (contents sheet.now).program.nodes }
-    requires wide { length found.old ≡ length (contents sheet.now).program.nodes }
-    ensures said { Said result (λ _. tt) (tree_of (contents sheet.now)) }
-    ensures below { OnOk result (Falling (contents sheet.now).program) }
-    ensures bodied { OnOk result (Bodied (contents sheet.now).program) }
+    requires unmarked { marks.old ≡ replicate (length sheet.now.program.nodes) Free }
+    requires unfound { found.old ≡ replicate (length sheet.now.program.nodes) 0 }
+    requires long { length marks.old ≡ length sheet.now.program.nodes }
+    requires wide { length found.old ≡ length sheet.now.program.nodes }
+    ensures said { Said result (λ _. tt) (tree_of sheet.now) }
+    ensures below { OnOk result (Falling sheet.now.program) }
+    ensures bodied { OnOk result (Bodied sheet.now.program) }
 {
     claim_all(sheet, marks)?;
     claim_bodies(sheet, marks)?;
@@ -92,9 +111,9 @@ fn tree_by(sheet: &ReadSheet, marks: &mut [Mark], found: &mut [u8]) -> Result<()
     all_shallow(sheet, found)
 }
 
-// The sheet's nodes form trees, or break a rule of the tree.
+// The sheet's nodes form trees, or break a rule of the tree. Marks and levels are two lists: a level can be found only when all marks are there.
 pub(crate) fn tree<'a>(heap: Global, sheet: ReadSheet<'a>) -> Result<Trees<'a>, Refusal>
-    ensures said { Said result (λ _. tt) (tree_of (contents sheet.entry)) }
+    ensures said { Said result (λ _. tt) (tree_of sheet.entry) }
     ensures same { IfOk result (λ t. t.sheet ≡ sheet.entry) }
 {
     let count = sheet.nodes().len();

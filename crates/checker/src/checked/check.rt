@@ -3,10 +3,9 @@ ghost use Rattle.std.specs.Prelude.{◌≡◌, ◌<◌, length, IfOk};
 ghost use Rattle.std.proofs.Math.Option.{some};
 ghost use Rattle.sheet.specs.Outcome.{Said};
 ghost use Rattle.checker.specs.Trees.{function_at};
-ghost use Rattle.checker.specs.Checked.{main_in, rules_held, checked_at};
+ghost use Rattle.checker.specs.Checked.{IsMain, main_in, rules_held, checked_at};
 ghost use Rattle.checker.specs.CheckedOf.{checked_of};
 ghost use Rattle.checker.specs.Exact.{AcceptsExactly, RefusesExactly};
-ghost use Rattle.checker.specs.Contents.{contents};
 
 use crate::bodies::bodies;
 use crate::checked::CheckedSheet;
@@ -20,9 +19,9 @@ use std::alloc::Global;
 
 // The rules beyond reading, and the number of `main`.
 fn rules<'a>(heap: Global, sheet: ReadSheet<'a>) -> Result<(Trees<'a>, usize), Refusal>
-    ensures said { Said result (λ _. tt) (rules_held (contents sheet.entry)) }
+    ensures said { Said result (λ _. tt) (rules_held sheet.entry) }
     ensures same { IfOk result (λ t. t.0.sheet ≡ sheet.entry) }
-    ensures main { IfOk result (λ t. (t.1 < length (contents sheet.entry).program.functions) × (main_in (contents sheet.entry).program (contents sheet.entry).program.functions ≡ some (function_at (contents sheet.entry).program t.1))) }
+    ensures main { IfOk result (λ t. IsMain sheet.entry t.1) }
 {
     let trees = tree(heap, sheet)?;
     let main = names(&trees.sheet)?;
@@ -36,13 +35,13 @@ pub fn check<'a>(heap: Global, bytes: &'a [u8]) -> Result<CheckedSheet<'a>, Refu
     ensures said { Said result checked_of (checked_at bytes.now) }
     ensures exact { AcceptsExactly }
     ensures refuses { RefusesExactly }
-    ensures main { IfOk result (λ s. (s.main < length (checked_of s).program.functions) × (main_in (checked_of s).program (checked_of s).program.functions ≡ some (function_at (checked_of s).program s.main))) }
+    ensures main { IfOk result (λ s. IsMain (checked_of s) s.main) }
 {
     let sheet = decode(heap, bytes)?;
-    let (trees, main) = rules(heap, ReadSheet { sheet })?;
+    let (trees, main) = rules(heap, ReadSheet::new(sheet))?;
     Ok(CheckedSheet {
         bytes,
-        sheet: trees.sheet.sheet,
+        sheet: trees.sheet.into_sheet(),
         main,
     })
 }

@@ -3,113 +3,125 @@ ghost use Rattle.std.specs.Prelude.{◌≡◌, ℕ, ◌+◌, ◌*◌, ◌<◌, �
 ghost use Rattle.sheet.specs.declared.functions.FunctionRecord.{FunctionRecord as Record};
 ghost use Rattle.xi.specs.Program.{items_of};
 ghost use Rattle.xi.specs.Tree.{node_at, entries_of};
-ghost use Rattle.checker.specs.Contents.{contents};
-ghost use Rattle.checker.specs.Facts.{Inside, Sized, FunctionSized};
+ghost use Rattle.checker.specs.Facts.{Granted, Inside, Sized, FunctionSized};
+ghost use Rattle.checker.specs.Held.{held_by};
 ghost use Rattle.checker.specs.Trees.{offset_of, function_at};
 
 use crate::read_sheet::ReadSheet;
 use sheet::functions::FunctionRecord;
+use sheet::sheet::Sheet;
 use xi::node::{Node, Run, Ty};
 use xi::program::{Function, GlobalVariable, Parameter};
 
-impl ReadSheet<'_> {
-    #[tactic(auto, unfolding(crate::specs::Held::held_by))]
+#[tactic(auto, unfolding(crate::specs::Held::held_by))]
+impl<'a> ReadSheet<'a> {
+    // A sheet for which that holds which reading grants.
+    pub(crate) fn new(sheet: Sheet<'a>) -> ReadSheet<'a>
+        requires { Granted (held_by sheet) }
+        ensures { result ≡ held_by sheet.entry }
+    {
+        ReadSheet { sheet }
+    }
+
+    pub(crate) fn into_sheet(self) -> Sheet<'a>
+        ensures { held_by result ≡ self.entry }
+    {
+        self.sheet
+    }
+
+    pub(crate) fn names(&self) -> &[&'a [u8]]
+        ensures { map (λ v. v.now) result.now ≡ self.now.program.names }
+    {
+        &self.sheet.names
+    }
+
     pub(crate) fn node_at(&self, n: usize) -> Node
-        requires { n < length (contents self.now).program.nodes }
-        ensures same { result ≡ node_at (contents self.now).program n }
-        ensures sized { Sized (contents self.now).program result }
+        requires { n < length self.now.program.nodes }
+        ensures same { result ≡ node_at self.now.program n }
+        ensures sized { Sized self.now.program result }
     {
         self.sheet.nodes[n]
     }
 
-    #[tactic(auto, unfolding(crate::specs::Held::held_by))]
     pub(crate) fn nodes(&self) -> &[Node]
-        ensures { result.now ≡ (contents self.now).program.nodes }
+        ensures nodes { result.now ≡ self.now.program.nodes }
+        ensures granted { Granted self.now }
     {
         &self.sheet.nodes
     }
 
     // The offset of node `n`.
-    #[tactic(auto, unfolding(crate::specs::Held::held_by))]
     pub(crate) fn offset(&self, n: usize) -> usize
-        requires { n < length (contents self.now).program.nodes }
-        ensures { result ≡ offset_of (contents self.now) n }
+        requires { n < length self.now.program.nodes }
+        ensures { result ≡ offset_of self.now n }
     {
         self.sheet.nodes_at + 8 * n
     }
 
     // The entries of a run.
-    #[tactic(auto, unfolding(crate::specs::Held::held_by))]
     pub(crate) fn entries(&self, run: Run) -> &[u16]
-        requires { Inside (length (contents self.now).program.entries) run }
-        ensures { result.now ≡ entries_of (contents self.now).program run }
+        requires { Inside (length self.now.program.entries) run }
+        ensures { result.now ≡ entries_of self.now.program run }
     {
         run.of(&self.sheet.entries)
     }
 
-    #[tactic(auto, unfolding(crate::specs::Held::held_by))]
     pub(crate) fn function_at(&self, i: usize) -> Function
-        requires { i < length (contents self.now).program.functions }
-        ensures same { result ≡ function_at (contents self.now).program i }
-        ensures sized { FunctionSized (contents self.now).program result }
+        requires { i < length self.now.program.functions }
+        ensures same { result ≡ function_at self.now.program i }
+        ensures sized { FunctionSized self.now.program result }
     {
         self.sheet.functions.records[i].function
     }
 
     // The offset of the record of function `i`.
-    #[tactic(auto, unfolding(crate::specs::Held::held_by))]
     pub(crate) fn function_place(&self, i: usize) -> usize
-        requires { i < length (contents self.now).program.functions }
-        ensures { result ≡ slice_index (contents self.now).function_places i }
+        requires { i < length self.now.program.functions }
+        ensures { result ≡ slice_index self.now.function_places i }
     {
         self.sheet.functions.records[i].at
     }
 
-    #[tactic(auto, unfolding(crate::specs::Held::held_by))]
     pub(crate) fn functions(&self) -> &[FunctionRecord]
-        ensures functions { map (λ (r : Record). r.function) result.now ≡ (contents self.now).program.functions }
-        ensures places { map (λ (r : Record). r.at) result.now ≡ (contents self.now).function_places }
+        ensures functions { map (λ (r : Record). r.function) result.now ≡ self.now.program.functions }
+        ensures places { map (λ (r : Record). r.at) result.now ≡ self.now.function_places }
+        ensures granted { Granted self.now }
     {
         &self.sheet.functions.records
     }
 
-    #[tactic(auto, unfolding(crate::specs::Held::held_by))]
     pub(crate) fn parameters(&self, function: Function) -> &[Parameter]
-        requires { Inside (length (contents self.now).program.parameters) function.parameters }
-        ensures items { result.now ≡ items_of (contents self.now).program.parameters function.parameters }
+        requires { Inside (length self.now.program.parameters) function.parameters }
+        ensures items { result.now ≡ items_of self.now.program.parameters function.parameters }
         ensures count { length result.now ≡ function.parameters.count }
     {
         function.parameters.of(&self.sheet.functions.parameters)
     }
 
-    #[tactic(auto, unfolding(crate::specs::Held::held_by))]
     pub(crate) fn results(&self, function: Function) -> &[Ty]
-        requires { Inside (length (contents self.now).program.results) function.results }
-        ensures { result.now ≡ items_of (contents self.now).program.results function.results }
+        requires { Inside (length self.now.program.results) function.results }
+        ensures { result.now ≡ items_of self.now.program.results function.results }
     {
         function.results.of(&self.sheet.functions.results)
     }
 
-    #[tactic(auto, unfolding(crate::specs::Held::held_by))]
     pub(crate) fn globals(&self) -> &[GlobalVariable]
-        ensures { result.now ≡ (contents self.now).program.globals }
+        ensures { result.now ≡ self.now.program.globals }
     {
         &self.sheet.globals
     }
 
     // The offset of global `i`.
-    #[tactic(auto, unfolding(crate::specs::Held::held_by))]
     pub(crate) fn global_offset(&self, i: usize) -> usize
-        requires { i < length (contents self.now).program.globals }
-        ensures { result ≡ (contents self.now).globals_at + 12 * i }
+        requires { i < length self.now.program.globals }
+        ensures { result ≡ self.now.globals_at + 12 * i }
     {
         self.sheet.globals_at + 12 * i
     }
 
     // The offset of the functions' count.
-    #[tactic(auto, unfolding(crate::specs::Held::held_by))]
     pub(crate) fn functions_offset(&self) -> usize
-        ensures { result ≡ (contents self.now).functions_at }
+        ensures { result ≡ self.now.functions_at }
     {
         self.sheet.functions_at
     }

@@ -7,8 +7,8 @@ use crate::scope::Scope;
 use xi::node::Ty;
 use xi::program::Parameter;
 
+#[tactic(auto, unfolding(crate::specs::Scopes::scope_of))]
 impl Scope {
-    #[tactic(auto, unfolding(crate::specs::Scopes::scope_of))]
     pub(crate) fn empty() -> Scope
         ensures { scope_of result ≡ [] }
     {
@@ -23,11 +23,10 @@ impl Scope {
     }
 
     // The type of a name in scope.
-    #[tactic(auto, unfolding(crate::specs::Scopes::scope_of))]
     pub(crate) fn find(&self, name: u16) -> Option<Ty>
         ensures { type_in (scope_of self.now) name ≡ type_found result }
     {
-        // by place: a search from the back of a slice's iterator was tried, and not proved
+        // by place: `.iter().rev()` of the names was tried, in a chain with `find` and in a `for`, and the proof did not close
         for i in (0..self.len).rev() {
             if self.names[i].name == name {
                 return Some(self.names[i].ty);
@@ -36,7 +35,6 @@ impl Scope {
         None
     }
 
-    #[tactic(auto, unfolding(crate::specs::Scopes::scope_of))]
     pub(crate) fn has_room(&self) -> bool
         ensures { result ≡ nat_lt (length (scope_of self.now)) 64 }
     {
@@ -44,7 +42,6 @@ impl Scope {
     }
 
     // The scope with one name more.
-    #[tactic(auto, unfolding(crate::specs::Scopes::scope_of))]
     pub(crate) fn with(mut self, local: Parameter) -> Scope
         requires { length (scope_of self) < 64 }
         ensures { scope_of result ≡ binding local.name local.ty ∷ scope_of self }

@@ -4,10 +4,9 @@ use Rattle.sheet.specs.declared.functions.FunctionRecord.{FunctionRecord}
 use Rattle.sheet.specs.Outcome.{bad}
 use Rattle.sheet.specs.Sheets.{Decoded}
 use Rattle.checker.specs.Checked.{function_name, functions_free}
-use Rattle.checker.specs.Contents.{contents}
-use Rattle.checker.specs.Repeats.{record_name, repeated}
+use Rattle.checker.specs.Repeats.{record_name, repeated, fails_at}
 use Rattle.checker.specs.Trees.{no_function}
-use Rattle.checker.proofs.Searches.{fails_at, tests-repeated, repeated-within, repeated-map}
+use Rattle.checker.proofs.Searches.{tests-repeated, repeated-within, repeated-map}
 use Rattle.checker.proofs.names.functions_free.Goals as goal
 
 -- o is what is found among the records rs
@@ -19,13 +18,13 @@ module _ (D : Decoded) (rs : List FunctionRecord) (functions : map (λ (r : Func
   free-are = tests-repeated no_function Taken (slice_index D.function_places) D.program.functions function_name ∙ ap (fails_at Taken (slice_index D.function_places)) same
 
 pub function_place-requires : goal.function_place-requires
-function_place-requires c = repeated-within function_name _ _ (same (contents c.args.sheet.now) _ c.functions.ensures.functions _ c.repeated.ensures ∙ c.in-Some.is)
+function_place-requires c = repeated-within function_name _ _ (same c.args.sheet.now _ c.functions.ensures.functions _ c.repeated.ensures ∙ c.in-Some.is)
 
 pub returns-in-None : goal.returns-in-None
 returns-in-None c =
-    free-are (contents c.args.sheet.now) _ c.functions.ensures.functions _ c.repeated.ensures ∙ ap (fails_at Taken (slice_index (contents c.args.sheet.now).function_places)) c.in-None.is
+    free-are c.args.sheet.now _ c.functions.ensures.functions _ c.repeated.ensures ∙ ap (fails_at Taken (slice_index c.args.sheet.now.function_places)) c.in-None.is
 
 pub returns-in-Some : goal.returns-in-Some
 returns-in-Some c =
-    free-are (contents c.args.sheet.now) _ c.functions.ensures.functions _ c.repeated.ensures ∙ ap (fails_at Taken (slice_index (contents c.args.sheet.now).function_places)) c.in-Some.is
+    free-are c.args.sheet.now _ c.functions.ensures.functions _ c.repeated.ensures ∙ ap (fails_at Taken (slice_index c.args.sheet.now.function_places)) c.in-Some.is
     ∙ ap (bad Taken) (sym c.function_place.ensures)
