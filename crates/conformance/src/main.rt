@@ -1,7 +1,7 @@
 // Compares the replies to stored inputs with what they should be: a case a line, input and reply in hexadecimal.
 #![tactic(auto)]
 
-use anyhow::anyhow;
+use anyhow::Context;
 use report::hexadecimal;
 use report::sheetrun::reply;
 use std::alloc::Global;
@@ -9,15 +9,11 @@ use std::io::{BufRead, BufReader};
 
 // Whether the reply to the input is the one that is stored.
 fn agrees(heap: Global, line: &str) -> anyhow::Result<bool> {
-    let Some((input, expected)) = line.split_once(' ') else {
-        return Err(anyhow!("a case has no space"));
-    };
-    let Some(input) = hexadecimal::bytes(heap, input.as_bytes())? else {
-        return Err(anyhow!("an input is not hexadecimal"));
-    };
-    let Some(expected) = hexadecimal::bytes(heap, expected.as_bytes())? else {
-        return Err(anyhow!("a reply is not hexadecimal"));
-    };
+    let (input, expected) = line.split_once(' ').context("a case has no space")?;
+    let input = hexadecimal::bytes(heap, input.as_bytes())?;
+    let input = input.context("an input is not hexadecimal")?;
+    let expected = hexadecimal::bytes(heap, expected.as_bytes())?;
+    let expected = expected.context("a reply is not hexadecimal")?;
     let text = reply(heap, &input)?;
     Ok(text.as_bytes() == expected.as_slice())
 }

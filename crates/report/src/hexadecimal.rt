@@ -1,4 +1,4 @@
-// Bytes written as hexadecimal digits.
+// Bytes written as hexadecimal digits. Not the kit's `hex`: `-` is text of this program's own, and what is no pair has no reason to be told.
 ghost use Rattle.std.specs.Prelude.{◌≡◌, IfOk, vec_items};
 ghost use Rattle.std.specs.Option.{option_map};
 ghost use Rattle.report.specs.Hexadecimal.{digit_of, joined, bytes_of};
@@ -29,6 +29,9 @@ pub fn bytes(heap: Global, text: &[u8]) -> Result<Option<Vec<u8>>, AllocError>
     if text == b"-".as_slice() {
         return Ok(Some(all));
     }
+    if text.len() % 2 == 1 {
+        return Ok(None);
+    }
     let mut rest = text;
     while let [high, low, others @ ..] = rest {
         let Some(byte) = pair(*high, *low) else {
@@ -37,9 +40,5 @@ pub fn bytes(heap: Global, text: &[u8]) -> Result<Option<Vec<u8>>, AllocError>
         all.push(byte)?;
         rest = others;
     }
-    if rest.is_empty() {
-        Ok(Some(all))
-    } else {
-        Ok(None)
-    }
+    Ok(Some(all))
 }

@@ -30,7 +30,7 @@ impl fmt::Display for Reply {
         match *self {
             Reply::Refused { rule, at } => {
                 let number = rule.number();
-                write!(f, "= refused {number} {at}\n")
+                writeln!(f, "= refused {number} {at}")
             }
             Reply::Checked {
                 names,
@@ -39,9 +39,9 @@ impl fmt::Display for Reply {
                 nodes,
                 globals,
                 functions,
-            } => write!(
+            } => writeln!(
                 f,
-                "= checked {names} {constants} {entries} {nodes} {globals} {functions}\n"
+                "= checked {names} {constants} {entries} {nodes} {globals} {functions}"
             ),
         }
     }

@@ -1,4 +1,4 @@
-// Reads a sheet and the text of its run from standard input, and prints what comes of it.
+// Reads a sheet from standard input, behind which a text may stand, and prints what comes of it.
 #![tactic(auto)]
 
 use report::sheetrun::reply;
