@@ -180,7 +180,8 @@ fn is_block(node: Node) -> bool
     matches!(node, Node::Block { .. })
 }
 
-// Notes that `body` is the body of a function whose record is at `at`.
+// Notes that `body` is the body of a function whose record is at `at`. As `claim`, but another thing is asked of the node, and another
+// offset is refused; with the test in one function its parts would be parameters.
 fn claim_body(sheet: &ReadSheet, marks: &mut [Mark], at: usize, body: u16) -> Result<(), Refusal>
     requires { length marks.old ≡ length sheet.now.program.nodes }
     ensures said { Said result (λ _. marks.new) (claimed_as_body sheet.now body at marks.old) }

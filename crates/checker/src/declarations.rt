@@ -71,6 +71,7 @@ fn targets_fit(targets: Parts, types: &[Ty]) -> bool
     ensures { result ≡ targets_fit (whole targets.entry.node).program targets.entry.numbers.now (numbers_of types.now) }
 {
     let sheet = &targets.node.trees.sheet;
+    // a loop and no `all`: its closure would have to ask that each number is a node's
     for (target, ty) in targets.numbers.iter().zip(types) {
         if !target_fits(sheet.node_at(*target as usize), *ty) {
             return false;

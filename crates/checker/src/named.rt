@@ -56,6 +56,7 @@ pub(crate) fn number_of<T: Named>(items: &[T], name: u16) -> Option<usize>
 pub(crate) fn repeated<T: Named>(items: &[T]) -> Option<usize>
     ensures { result ≡ repeated T.Named.name items.now }
 {
+    // a loop and no `position`: each turn looks at the items before it
     for (i, item) in items.iter().enumerate() {
         if has_name(&items[..i], item.name_number()) {
             return Some(i);

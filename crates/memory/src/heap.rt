@@ -7,7 +7,8 @@ use crate::cell::Cell;
 pub mod arrays;
 pub mod cells;
 
-// How much room a call needs is its own, so each call asks for it. No `impl Model`: its invariant would not reach callers, who are told that every heap is clean, and a view as a list forgets the other cells.
+// How much room a call needs is its own, so each call asks for it; and each that changes a heap says that as many cells are lent as before, since no
+// type holds what two values have alike. No `impl Model`: its invariant would not reach callers, who are told that every heap is clean, and a view as a list forgets the other cells.
 // No list stands behind both heap and stack: what they do alike is a line or two each, and only a heap says what lies past the cells in use.
 #[derive(Drop)]
 pub struct Heap<'c> {

@@ -105,7 +105,7 @@ impl RawNode {
         }
     }
 
-    // Kinds 9 to 11.
+    // Kinds 9 to 11. The type is still its field here: an element is of at most type 7.
     fn collection(self, known: Known) -> Option<Node>
         ensures { result ≡ collection_of known.entry.names known.entry.entries self }
     {
@@ -131,7 +131,7 @@ impl RawNode {
         }
     }
 
-    // Kinds 20 to 22: declarations.
+    // Kinds 20 to 22: declarations. The type is still its field here, and half of it the depth.
     fn declaration(self, known: Known) -> Option<Node>
         ensures { result ≡ declaration_of known.entry.names known.entry.entries self }
     {

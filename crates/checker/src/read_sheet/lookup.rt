@@ -1,4 +1,4 @@
-// What a name stands for.
+// What a name stands for. The number is found first, since what is known of a function or a global is known by its number.
 ghost use Rattle.std.specs.Prelude.{◌≡◌, ℕ, ◌<◌, length, get_or, IfSome, MatchOption, slice_index_or};
 ghost use Rattle.std.proofs.Math.Option.{none, some};
 ghost use Rattle.xi.specs.Typing.{global_type, function_named, variable_type};

@@ -12,6 +12,7 @@ pub(crate) fn is_wanted(wanted: Wanted, count: usize, i: usize, ty: Ty) -> bool
 {
     match wanted {
         Wanted::Each { ty: each } => ty == each,
+        // `is_some_and` was tried here and below: its proof is the longer one
         Wanted::Types { types } => match types.get(i) {
             Some(wanted) => ty == *wanted,
             None => false,
