@@ -1,5 +1,5 @@
 -- The pieces of a tile's text: w is the tile's width, k the index of the first height, n how many characters of its piece are read.
-use Rattle.std.proofs.Common.{◌≡◌, ℕ, ◌+◌, ◌-◌, ◌%◌, ◌<◌, ◌≤◌, cond, leb, List, [], ◌∷◌, ◌++◌, length, get_or, drop, ℤ, Some, None, Option, sym, refl, ap, ◌∙◌, append-nil, append_assoc, arith, rules, length-append, length-drop, w16, SFits, ltb}
+use Rattle.std.proofs.Common.{◌≡◌, ℕ, ◌+◌, ◌-◌, ◌%◌, ◌<◌, ◌≤◌, ◌==◌, Bool, false, cond, leb, List, [], ◌∷◌, ◌++◌, length, get_or, drop, ℤ, Some, None, Option, sym, refl, ap, ◌∙◌, append-nil, append_assoc, arith, rules, length-append, length-drop, w16, SFits, ltb}
 use Rattle.std.proofs.lemmas.Bool.{le-leb, lt-leb, cond-true, cond-false}
 use Rattle.std.proofs.lemmas.Bool.Decides.{nat_tests}
 use Rattle.host.specs.Tile.{tile_text}
@@ -8,32 +8,30 @@ use Rattle.std.specs.Option.{option_or}
 use Rattle.std.proofs.lemmas.Grind.{common_steps}
 use Rattle.std.proofs.lemmas.List.{drop_more, get_or_append_left, get_or_push, get_or-drop, drop-append-le}
 use Rattle.host.specs.Decimal.{decimal}
-use Rattle.host.specs.Stream.{ends_row, separator_behind, piece, piece_text, text_from, unread, front}
+use Rattle.host.specs.Stream.{ends_row, separator_behind, separator_at, piece, piece_text, text_from, unread, front}
 use Rattle.host.specs.Text.{item, first, rest, row_length}
 use Rattle.host.proofs.Decimals.{decimal-some, decimal-row}
 use Rattle.host.proofs.Rows.{plain-drop, row-append}
 use Rattle.host.proofs.Streams.{unread-none, tile_text_is}
 
--- what stands behind a height
-pub separator_last : (w k : ℕ) (hs : List ℤ) → length hs ≤ 1 → None ≡ first (separator_behind w k (drop 1 hs))
+-- what stands behind a height that is not the last
+pub separator_newline : (w k : ℕ) → (k + 1) % w ≡ 0 → Some 10 ≡ separator_at w k false
+unfolding ends_row
+separator_newline w k e = grind (arith, nat_tests)
+
+pub separator_comma : (w k : ℕ) → ((k + 1) % w ≡ 0 → ⊥) → Some 44 ≡ separator_at w k false
+unfolding ends_row
+separator_comma w k e = grind (arith, nat_tests)
+
+pub ruleset separators = (separator_newline, separator_comma)
+
+-- it is the first of what stands between that height and those that follow
+pub separator-first : (w k : ℕ) (hs : List ℤ) (last : Bool) → last ≡ (length hs == 0) → separator_at w k last ≡ first (separator_behind w k hs)
 unfolding separator_behind
-separator_last w k [] l = refl
-separator_last w k (h ∷ []) l = refl
-separator_last w k (h ∷ (g ∷ gs)) l = absurd (omega arith)
-
-pub separator_newline : (w k : ℕ) (hs : List ℤ) → 1 < length hs → (k + 1) % w ≡ 0 → Some 10 ≡ first (separator_behind w k (drop 1 hs))
-unfolding separator_behind ends_row
-separator_newline w k [] l e = absurd (omega arith)
-separator_newline w k (h ∷ []) l e = absurd (omega arith)
-separator_newline w k (h ∷ (g ∷ gs)) l e = grind (arith, nat_tests)
-
-pub separator_comma : (w k : ℕ) (hs : List ℤ) → 1 < length hs → ((k + 1) % w ≡ 0 → ⊥) → Some 44 ≡ first (separator_behind w k (drop 1 hs))
-unfolding separator_behind ends_row
-separator_comma w k [] l e = absurd (omega arith)
-separator_comma w k (h ∷ []) l e = absurd (omega arith)
-separator_comma w k (h ∷ (g ∷ gs)) l e = grind (arith, nat_tests)
-
-pub ruleset separators = (separator_last, separator_newline, separator_comma)
+separator-first w k [] last e = ap (separator_at w k) e
+separator-first w k (h ∷ hs) last e =
+    let more : last ≡ false = grind (arith, nat_tests) in
+    ap (separator_at w k) more
 
 -- a piece's text, from its separator
 pub piece_is : (w k : ℕ) (h : ℤ) (hs : List ℤ) → piece_text h (first (separator_behind w k hs)) ≡ piece w k h hs
@@ -55,17 +53,17 @@ unfolding unread
 unread_end w k n [] e = refl
 unread_end w k n (h ∷ hs) e = absurd (omega arith)
 
-module _ (w k n : ℕ) (hs : List ℤ) (h : ℤ) (others : List ℤ) (o : Option ℕ) (e : hs ≡ h ∷ others) (s : o ≡ first (separator_behind w k (drop 1 hs))) where
-  pub first_piece : drop n (piece_text h o) ≡ front w k n hs
-  first_piece = rw (e, s, e) (ap (drop n) (piece_is w k h others))
+module _ (w k n : ℕ) (hs : List ℤ) (h : ℤ) (others : List ℤ) (last : Bool) (e : hs ≡ h ∷ others) (s : last ≡ (length others == 0)) where
+  pub first_piece : drop n (piece_text h (separator_at w k last)) ≡ front w k n hs
+  first_piece = rw (separator-first w k others last s, e) (ap (drop n) (piece_is w k h others))
 
-  pub unread-first_piece : unread w k n hs ≡ drop n (piece_text h o) ++ unread w (k + 1) 0 others
+  pub unread-first_piece : unread w k n hs ≡ drop n (piece_text h (separator_at w k last)) ++ unread w (k + 1) 0 others
   unread-first_piece = rw (first_piece, e) (unread-front w k n h others)
 
-  pub first_piece-unread : (0 < length hs → 0 < length (front w k n hs)) → n < length (piece_text h o)
+  pub first_piece-unread : (0 < length hs → 0 < length (front w k n hs)) → n < length (piece_text h (separator_at w k last))
   first_piece-unread some =
-      let l : 0 < length (drop n (piece_text h o)) = rw first_piece (some (rw e (omega arith))) in
-      omega (arith, length-drop n (piece_text h o), l)
+      let l : 0 < length (drop n (piece_text h (separator_at w k last))) = rw first_piece (some (rw e (omega arith))) in
+      omega (arith, length-drop n (piece_text h (separator_at w k last)), l)
 
 -- at the start the whole text is unread, or none of it where the heights are too many
 pub start_whole : (w most : ℕ) (hs : List ℤ) → length hs ≤ most → unread w 0 0 hs ≡ cond (leb (length hs) most) (tile_text w hs) []

@@ -37,13 +37,13 @@ row-take (suc n) (c ∷ cs) = let again = row-take n cs in grind (arith, nat_tes
 pub plain-cons : (c : ℕ) (cs : List ℕ) → (c ≡ 10 → ⊥) → row_length cs ≡ length cs → row_length (c ∷ cs) ≡ length (c ∷ cs)
 plain-cons c cs n e = grind (arith, nat_tests)
 
-plain_rest : (c : ℕ) (cs : List ℕ) → row_length (c ∷ cs) ≡ length (c ∷ cs) → row_length cs ≡ length cs
+plain_rest : (c : ℕ) (cs : List ℕ) → row_length (c ∷ cs) ≡ length (c ∷ cs) → (c ≡ 10 → ⊥) × (row_length cs ≡ length cs)
 plain_rest c cs e = grind (arith, nat_tests)
 
 pub plain-drop : (n : ℕ) (cs : List ℕ) → row_length cs ≡ length cs → row_length (drop n cs) ≡ length (drop n cs)
 plain-drop zero cs e = e
 plain-drop (suc n) [] e = e
-plain-drop (suc n) (c ∷ cs) e = plain-drop n cs (plain_rest c cs e)
+plain-drop (suc n) (c ∷ cs) e = plain-drop n cs (plain_rest c cs e).1
 
 pub row-append : (cs ds : List ℕ) → row_length cs ≡ length cs → row_length (cs ++ ds) ≡ length cs + row_length ds
 row-append cs ds e = prefix_len-append _ cs ds ∙ cond-true _ _ _ (eq-eqb _ _ e)

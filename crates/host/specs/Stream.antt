@@ -20,6 +20,10 @@ abbrev pub piece_text : ℤ → Option ℕ → List ℕ
 piece_text h None = decimal h
 piece_text h (Some c) = decimal h ++ (c ∷ [])
 
+-- what stands behind height k: nothing behind the last
+abbrev pub separator_at : ℕ → ℕ → Bool → Option ℕ
+separator_at w k last = cond last None (Some (cond (ends_row w k) 10 44))
+
 -- the text from height k on
 unfoldable pub text_from : ℕ → ℕ → List ℤ → List ℕ
 text_from w k [] = []

@@ -1,6 +1,6 @@
 // A host that reads a tile's heights as a text: decimals in rows.
 ghost use Rattle.std.specs.Prelude.{◌≡◌, ℕ, ◌+◌, ◌^◌, ◌<◌, [], length, if◌then◌else◌, Some, None, nat_le};
-ghost use Rattle.host.specs.Stream.{front, piece_text};
+ghost use Rattle.host.specs.Stream.{front, piece_text, separator_at};
 
 use crate::NEWLINE;
 use crate::source::Source;
@@ -119,26 +119,6 @@ struct Pieces<'t> {
     ghost unread: { 0 < length heights.now → 0 < length (front width index taken heights.now) },
 }
 
-impl Pieces<'_> {
-    ghost use Rattle.host.specs.Stream.{separator_behind};
-    ghost use Rattle.host.specs.Text.{first};
-    ghost use Rattle.std.specs.Prelude.{drop};
-
-    // What stands behind the first height: nothing behind the last.
-    #[tactic(auto, using(crate::proofs::Pieces::separators))]
-    fn separator(&self) -> Option<u32>
-        ensures { result ≡ first (separator_behind self.now.width self.now.index (drop 1 self.now.heights.now)) }
-    {
-        if self.heights.len() <= 1 {
-            None
-        } else if (self.index + 1).is_multiple_of(self.width) {
-            Some(NEWLINE)
-        } else {
-            Some(COMMA)
-        }
-    }
-}
-
 impl Iterator for Pieces<'_> {
     ghost use Rattle.std.specs.Iterator.{at_most};
     ghost use Rattle.host.specs.Pieces.{gives};
@@ -153,7 +133,9 @@ impl Iterator for Pieces<'_> {
         let (height, rest) = self.heights.split_first()?;
         let piece = Piece {
             height: *height,
-            separator: self.separator(),
+            width: self.width,
+            index: self.index,
+            last: rest.is_empty(),
             taken: self.taken,
         };
         self.heights = rest;
@@ -163,24 +145,44 @@ impl Iterator for Pieces<'_> {
     }
 }
 
+// A height with what stands behind it, which is told by a division only where it is asked for.
 #[derive(Clone, Copy, Drop)]
 struct Piece {
     height: i16,
-    separator: Option<u32>,
+    width: usize,
+    // the height's index in the tile
+    index: usize,
+    // no height follows
+    last: bool,
     taken: usize,
-    ghost unread: { taken < length (piece_text height separator) },
+    ghost bounded: { index < 2 ^ 63 },
+    ghost unread: { taken < length (piece_text height (separator_at width index last)) },
 }
 
 impl Piece {
     ghost use Rattle.std.specs.Prelude.{IsTrue, ◌↔◌};
-    ghost use Rattle.host.specs.Pieces.{unread_of};
+    ghost use Rattle.host.specs.Pieces.{unread_of, separator_of};
     ghost use Rattle.host.specs.Text.{item};
+
+    // What stands behind the height: nothing behind the last.
+    #[tactic(auto, using(crate::proofs::Pieces::separators))]
+    fn separator(&self) -> Option<u32>
+        ensures { result ≡ separator_of self.now }
+    {
+        if self.last {
+            None
+        } else if (self.index + 1).is_multiple_of(self.width) {
+            Some(NEWLINE)
+        } else {
+            Some(COMMA)
+        }
+    }
 
     // How many characters are unread.
     fn length(&self) -> usize
         ensures { result ≡ length (unread_of self.now) }
     {
-        numeral::length(i64::from(self.height)) + usize::from(self.separator.is_some()) - self.taken
+        numeral::length(i64::from(self.height)) + usize::from(!self.last) - self.taken
     }
 
     // Character j of those unread.
@@ -188,14 +190,15 @@ impl Piece {
         requires { j < length (unread_of self.now) }
         ensures { result ≡ item (unread_of self.now) j }
     {
-        numeral::character(i64::from(self.height), self.taken + j)
-            .map(u32::from)
-            .or(self.separator)
+        match numeral::character(i64::from(self.height), self.taken + j) {
+            Some(digit) => Some(u32::from(digit)),
+            None => self.separator(),
+        }
     }
 
     fn ends_row(&self) -> bool
-        ensures { IsTrue result ↔ (self.now.separator ≡ Some 10) }
+        ensures { IsTrue result ↔ (separator_of self.now ≡ Some 10) }
     {
-        self.separator == Some(NEWLINE)
+        self.separator() == Some(NEWLINE)
     }
 }

@@ -1,7 +1,7 @@
 // The characters of a number's decimal, each by its place: it is written into an array, so nothing is allocated.
 #![tactic(auto)]
 
-ghost use Rattle.std.specs.Prelude.{◌≡◌, ◌≤◌, length as count, if◌then◌else◌, Some, None, nat_lt, slice_index};
+ghost use Rattle.std.specs.Prelude.{◌≡◌, ◌<◌, ◌≤◌, length as count, if◌then◌else◌, Some, None, decimal, nat_lt, slice_index};
 ghost use Rattle.std.specs.Fmt.{signed_decimal};
 
 use itoa::Buffer;
@@ -9,12 +9,39 @@ use itoa::Buffer;
 #[cfg(test)]
 mod tests;
 
+// How many digits a number of at most five has: by comparing and adding, so that nothing is divided, looked up or branched on.
+fn few_digits(n: u64) -> usize
+    requires { n < 100000 }
+    ensures value { result ≡ count (decimal n) }
+    ensures bound { result ≤ 5 }
+{
+    1 + usize::from(n >= 10)
+        + usize::from(n >= 100)
+        + usize::from(n >= 1000)
+        + usize::from(n >= 10_000)
+}
+
+// How many digits it has.
+#[tactic(auto, using(crate::proofs::Lengths::count_between))]
+fn digit_count(n: u64) -> usize
+    ensures value { result ≡ count (decimal n) }
+    ensures bound { result ≤ 20 }
+{
+    if n < 100_000 {
+        few_digits(n)
+    } else {
+        n.ilog10() as usize + 1
+    }
+}
+
 // How many characters it has.
+#[tactic(auto, using(crate::proofs::Lengths::count_of_int))]
 pub fn length(z: i64) -> usize
     ensures value { result ≡ count (signed_decimal z) }
     ensures bound { result ≤ 20 }
 {
-    Buffer::new().format(z).len()
+    let digits = digit_count(z.unsigned_abs());
+    if z < 0 { digits + 1 } else { digits }
 }
 
 // Character j, from the left.

@@ -13,13 +13,13 @@ pub invariant_of-piece : goal.invariant_of-piece
 invariant_of-piece c =
     let fits : SFits w16 c.in_ok-height.height.now = search rules in
     let same = c.in_ok-height.ensures.cases.0 ∙ ap (λ (h : ℤ). h ∷ c.in_ok-height.rest.now) (sym (to_z-of_z w16 c.in_ok-height.height.now fits)) in
-    record { unread = first_piece-unread c.args.self.now.width c.args.self.now.index c.args.self.now.taken c.args.self.now.heights.now _ c.in_ok-height.rest.now _ same c.separator.ensures c.args.self.now.unread }
+    record { bounded = omega (arith, c.args.self.now.bounded); unread = first_piece-unread c.args.self.now.width c.args.self.now.index c.args.self.now.taken c.args.self.now.heights.now _ c.in_ok-height.rest.now _ same c.is_empty.ensures c.args.self.now.unread }
 
 pub returns-clause-steps : goal.returns-clause-steps
 returns-clause-steps c =
     let fits : SFits w16 c.in_ok-height.height.now = search rules in
     let same = c.in_ok-height.ensures.cases.0 ∙ ap (λ (h : ℤ). h ∷ c.in_ok-height.rest.now) (sym (to_z-of_z w16 c.in_ok-height.height.now fits)) in (
-      unread-first_piece c.args.self.now.width c.args.self.now.index c.args.self.now.taken c.args.self.now.heights.now _ c.in_ok-height.rest.now _ same c.separator.ensures,
-      first_piece c.args.self.now.width c.args.self.now.index c.args.self.now.taken c.args.self.now.heights.now _ c.in_ok-height.rest.now _ same c.separator.ensures,
+      unread-first_piece c.args.self.now.width c.args.self.now.index c.args.self.now.taken c.args.self.now.heights.now _ c.in_ok-height.rest.now _ same c.is_empty.ensures,
+      first_piece c.args.self.now.width c.args.self.now.index c.args.self.now.taken c.args.self.now.heights.now _ c.in_ok-height.rest.now _ same c.is_empty.ensures,
       refl,
     )
