@@ -1,7 +1,7 @@
 -- The cells in use, and the unset ones behind them: after a write, a push, a growth, a copy.
 use Rattle.std.proofs.Common.{◌≡◌, ℕ, ◌+◌, ◌-◌, ◌≤◌, List, ◌++◌, length, take, drop, replicate, pos, sym, ap, ◌∙◌, w64, to_z, arith}
 use Rattle.std.proofs.lemmas.Int.{to_z-of_z, to_z_pos}
-use Rattle.std.proofs.lemmas.List.{drop-drop, drop-replicate, take-replicate, take-take, drop-take, length-drop, length-take-le}
+use Rattle.std.proofs.lemmas.List.{drop-drop, drop-replicate, take-replicate, take-take, drop-take, length-drop, length-take-le, set-get_or}
 use Rattle.std.proofs.lemmas.List.Edits.{take-paste}
 use Rattle.std.proofs.Math.Seq.{take-add, take-set-lt}
 use Rattle.std.specs.List.{copy_within}
@@ -35,5 +35,5 @@ take_copied {X} xs n from k h l =
     ap (λ (j : ℕ). take k (drop from (take j xs))) (sym a) ∙ ap (take k) (drop-take from (n - from) xs) ∙ take-take k (n - from) (drop from xs) (omega arith) in
     rw (m, b) (take-paste xs n (drop from xs) k (omega arith) (simp length-drop (omega arith)))
 
--- what the cells in use are after each of those, and after a write
-pub ruleset taking = (rest_past, take_grown, take_copied, take-set-lt, length-take-le, to_z-of_z)
+-- what the cells in use are after each of those, and after a write; what is put back where it stands changes nothing
+pub ruleset taking = (rest_past, take_grown, take_copied, take-set-lt, length-take-le, to_z-of_z, set-get_or)
