@@ -1,6 +1,6 @@
 // Why a sheet is refused.
-ghost use Rattle.std.specs.Prelude.{◌≡◌};
-ghost use Rattle.sheet.specs.declared.refusal.Refusal.TheVariants.{Memory};
+ghost use Rattle.std.specs.Prelude.{◌≡◌, IfErr};
+ghost use Rattle.sheet.specs.declared.refusal.Refusal.TheVariants.{Memory, Broken};
 ghost use Rattle.sheet.specs.Outcome.{Said, held};
 
 use std::alloc::{AllocError, AllocFailed};
@@ -32,7 +32,8 @@ impl<T: Drop> From<AllocFailed<T>> for Refusal {
 
 // The rule holds at that offset, or is broken there.
 pub fn hold(holds: bool, rule: Rule, at: usize) -> Result<(), Refusal>
-    ensures { Said result (λ _. tt) (held holds rule at) }
+    ensures said { Said result (λ _. tt) (held holds rule at) }
+    ensures broken { IfErr result (λ e. e ≡ Broken rule at) }
 {
     if holds {
         Ok(())

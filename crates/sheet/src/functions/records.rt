@@ -49,6 +49,7 @@ fn add_items<T: Item + Drop>(known: Known, span: Span, all: &mut Vec<T>) -> Resu
     requires short { length span.bytes.now < 2 ^ 16 }
     ensures said { Said result (λ _. all.new.items) (items_in T.Item.SIZE (T.Item.reads known.entry) span.entry.at (length span.entry.bytes.now / T.Item.SIZE) span.entry.bytes.now all.old.items) }
     ensures len { OnOk result (vec_len all.new ≡ vec_len all.old + length span.entry.bytes.now / T.Item.SIZE) }
+    ensures most { vec_len all.new ≤ vec_len all.old + length span.entry.bytes.now / T.Item.SIZE }
     ensures run { IfOk result (λ r. r ≡ record { first = vec_len all.old; count = length span.entry.bytes.now / T.Item.SIZE }) }
 {
     let run = Run {

@@ -19,4 +19,4 @@ free_where gs ps p j t e = ap (λ b. held b Taken p) (sym (neither _ _)) ∙ ap 
 pub loop-j-preserved : goal.loop-j-preserved
 loop-j-preserved c =
     let free = free_where c.args.globals.now c.args.parameters.now c.args.at c.loop-j.j _ c.is_taken-taken.ensures in
-    step-good (λ j _. parameter_free c.args.globals.now c.args.parameters.now c.args.at j) _ _ tt c.loop-j-test.true tt (free ∙ c.in_ok-hold.ensures) ∙ c.loop-j.invariant
+    step-good (λ j _. parameter_free c.args.globals.now c.args.parameters.now c.args.at j) _ _ tt c.loop-j-test.true tt (free ∙ c.in_ok-hold.ensures.said) ∙ c.loop-j.invariant

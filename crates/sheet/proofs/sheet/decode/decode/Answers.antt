@@ -78,7 +78,7 @@ pub returns-in_err-hold : goal.returns-in_err-hold
 returns-in_err-hold c =
     let a = (goal.at.returns-in_err-hold c).After-of-known in
     let e = c.in_ok-nodes.ensures.same ∙ kept a in
-    said_on _ _ _ _ _ _ c.from_residual-in_err-hold.ensures.1 c.in_err-hold.ensures
+    said_on _ _ _ _ _ _ c.from_residual-in_err-hold.ensures.1 c.in_err-hold.ensures.said
     (λ k q h.
     let g : held (eqb c.read_part-6.new.r.at (length c.args.bytes.now)) Bytes c.read_part-6.new.r.at ≡ bad k q = search rules in
     left a _ _ e (c.in_ok-globals.ensures.same ∙ e) ∙ then_good _ c.in_ok-nodes.ensures.said ∙ then_good _ c.in_ok-globals.ensures.said ∙ then_good _ c.in_ok-functions.ensures.said ∙ then_bad _ g)
