@@ -31,7 +31,7 @@ count_between n k small l h =
 pub count_one : (n : ℕ) → n < 10 → length (decimal n) ≡ 1
 count_one n h = ap length (decimal_digit n h)
 
--- the size of an `int`
+-- the size of an `i64` has at most 19 digits
 pub count_of_int : (n : ℕ) → n ≤ 2 ^ 63 → length (decimal n) ≤ 19
 count_of_int n h = length-decimal-le 19 n (omega arith) (omega arith) (omega arith)
 

@@ -1,4 +1,4 @@
-// The characters of a number's decimal, each by its place: it is written into an array, so nothing is allocated.
+// The length and the characters of a number's decimal, each character by its place: for these it is written into an array, so nothing is allocated.
 #![tactic(auto)]
 
 ghost use Rattle.std.specs.Prelude.{◌≡◌, ◌<◌, ◌≤◌, length as count, if◌then◌else◌, Some, None, decimal, nat_lt, slice_index};
@@ -9,7 +9,7 @@ use itoa::Buffer;
 #[cfg(test)]
 mod tests;
 
-// How many digits a number of at most five has: by comparing and adding, so that nothing is divided, looked up or branched on.
+// How many digits a number below 100,000 has, by comparing and adding alone: a tile measures each height that it goes past.
 fn few_digits(n: u64) -> usize
     requires { n < 100000 }
     ensures value { result ≡ count (decimal n) }
